@@ -1,0 +1,4 @@
+pub mod Refusals
+pub mod Ranges
+pub mod Laws
+pub mod Amounts
