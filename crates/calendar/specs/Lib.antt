@@ -1,0 +1,4 @@
+pub mod Periods
+pub mod Loads
+pub mod Hours
+pub mod Examples
