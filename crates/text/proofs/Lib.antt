@@ -1,0 +1,5 @@
+pub mod Numbers
+pub mod Cuts
+pub mod Spaces
+pub mod Firsts
+pub mod Spellings
