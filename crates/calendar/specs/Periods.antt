@@ -38,6 +38,10 @@ maturityOf b =
     (cond (eqb b 83) (Ok Season)
     (cond (eqb b 89) (Ok Year) (Err Form)))))))))
 
+-- is it this maturity?
+abbrev pub alike : Maturity → Maturity → Bool
+alike x y = eqb (maturityLetter x) (maturityLetter y)
+
 -- the first day of a month
 abbrev pub firstOfMonth : ℕ → Bool
 firstOfMonth d = eqb (monthStart (monthOf d)) d

@@ -3,7 +3,7 @@ ghost use Prim.Native.Nat.{_+_, _-_, _≤_};
 ghost use Rattle.std.specs.Vec.{made};
 ghost use Rattle.std.specs.declared.result.Result.the-variants.{Ok};
 ghost use Rattle.days.specs.Days.{dayWithin, dayFound};
-ghost use Rattle.calendar.specs.Periods.{maturityOf, maturityLetter, startsOn, lastOf, periodOf, periodIn, Made-of, covers};
+ghost use Rattle.calendar.specs.Periods.{maturityOf, maturityLetter, alike, startsOn, lastOf, periodOf, periodIn, Made-of, covers};
 use crate::period::Period;
 use days::Day;
 use days::Weekday;
@@ -60,6 +60,12 @@ impl Maturity {
             Maturity::Season => b'S',
             Maturity::Year => b'Y',
         }
+    }
+
+    pub fn is(self, other: Maturity) -> bool
+        ensures { λ r. ⌜ r ≡ alike self other ⌝ }
+    {
+        self.letter() == other.letter()
     }
 
     // The period from a first day. Refused where the day is no first day for the maturity, or the period would end

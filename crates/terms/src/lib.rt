@@ -2,6 +2,7 @@
 mod additive;
 mod amounts;
 mod bounds;
+mod failure;
 mod refusal;
 
 pub use additive::Additive;
@@ -13,6 +14,12 @@ pub use amounts::Gains;
 pub use amounts::GainsAdditive;
 pub use amounts::QuantityAdditive;
 pub use bounds::Bounds;
+pub use failure::Failure;
+pub use failure::FailureDebug;
+pub use failure::FailureFromAlloc;
+pub use failure::FailureFromRefusal;
+pub use failure::FailureFromRefused;
+pub use failure::FailurePartialEq;
 pub use refusal::Refusal;
 pub use refusal::RefusalDebug;
 pub use refusal::RefusalDisplay;

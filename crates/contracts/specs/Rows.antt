@@ -1,0 +1,16 @@
+-- What the code's rows stand for. Names no struct that has the rules as its ghost fields.
+use mathlib.Core.List.{List, map}
+use Prim.Native.Nat.{ℕ}
+use Rattle.contracts.specs.Table.{Instr, Listed}
+use Rattle.contracts.specs.declared.contract.Instrument.{Instrument}
+use Rattle.contracts.specs.declared.contract.Terms.{Terms}
+use Rattle.contracts.specs.declared.contract.Contract.{Contract}
+
+abbrev pub instr : {P : Type 0} → Instrument P → Instr
+instr i = record { number = i .number; kind = i .kind }
+
+abbrev pub saidIn : Terms → Listed
+saidIn c = record { number = c .number; instrument = c .instrument; maturity = c .maturity; first = c .first .number; registration = c .registration .number }
+
+abbrev pub listed : Contract → Listed
+listed c = saidIn (c .terms)

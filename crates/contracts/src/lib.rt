@@ -1,0 +1,13 @@
+// Instruments and contracts, the rules that every table of them keeps, and the lines of a table.
+mod adding;
+mod contract;
+mod kind;
+mod table;
+
+pub use contract::Contract;
+pub use contract::Instrument;
+pub use contract::Terms;
+pub use kind::Kind;
+pub use kind::KindDebug;
+pub use kind::KindPartialEq;
+pub use table::ContractTable;
