@@ -1,2 +1,4 @@
 pub mod Walks
 pub mod Keeping
+pub mod Searches
+pub mod Orders

@@ -2,4 +2,6 @@ pub mod Kinds
 pub mod Table
 pub mod Rules
 pub mod Rows
+pub mod Lines
+pub mod Seen
 pub mod Views

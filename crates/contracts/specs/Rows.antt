@@ -1,7 +1,9 @@
 -- What the code's rows stand for. Names no struct that has the rules as its ghost fields.
 use mathlib.Core.List.{List, map}
 use Prim.Native.Nat.{ℕ}
-use Rattle.contracts.specs.Table.{Instr, Listed}
+use Rattle.std.specs.declared.option.Option.{Option}
+use Rattle.std.specs.declared.option.Option.the-variants.{Some, None}
+use Rattle.contracts.specs.Table.{Instr, Listed, blank}
 use Rattle.contracts.specs.declared.contract.Instrument.{Instrument}
 use Rattle.contracts.specs.declared.contract.Terms.{Terms}
 use Rattle.contracts.specs.declared.contract.Contract.{Contract}
@@ -14,3 +16,7 @@ saidIn c = record { number = c .number; instrument = c .instrument; maturity = c
 
 abbrev pub listed : Contract → Listed
 listed c = saidIn (c .terms)
+
+abbrev pub rowIn : Option Contract → Listed
+rowIn None = blank
+rowIn (Some c) = listed c

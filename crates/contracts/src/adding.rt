@@ -125,7 +125,8 @@ impl<P: Drop> ContractTable<P> {
             && self.is_on_time(terms, last)
     }
 
-    fn is_open(&self, terms: Terms) -> bool
+    // Whether registration goes on after the date.
+    pub fn is_open(&self, terms: Terms) -> bool
         ensures { λ r. ⌜ r ≡ isOpen (tableOf (now (self .entry))) (saidIn terms) ⌝ }
     {
         self.date.number < terms.registration.number

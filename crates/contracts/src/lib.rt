@@ -2,7 +2,11 @@
 mod adding;
 mod contract;
 mod kind;
+mod line;
+mod lines;
+mod reaching;
 mod table;
+mod taking;
 
 pub use contract::Contract;
 pub use contract::Instrument;
@@ -10,4 +14,5 @@ pub use contract::Terms;
 pub use kind::Kind;
 pub use kind::KindDebug;
 pub use kind::KindPartialEq;
+pub use line::Line;
 pub use table::ContractTable;
