@@ -4,4 +4,5 @@ pub mod Rules
 pub mod Rows
 pub mod Lines
 pub mod Seen
+pub mod Hours
 pub mod Views

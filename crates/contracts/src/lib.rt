@@ -1,6 +1,7 @@
 // Instruments and contracts, the rules that every table of them keeps, and the lines of a table.
 mod adding;
 mod contract;
+mod hours;
 mod kind;
 mod line;
 mod lines;
