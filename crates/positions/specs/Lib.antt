@@ -1,0 +1,4 @@
+pub mod Sums
+pub mod Net
+pub mod Netted
+pub mod Law
