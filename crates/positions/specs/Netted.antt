@@ -56,12 +56,13 @@ abbrev pub allThere : Table → ℕ → Maturity → ℕ → ℕ → ℕ → Boo
 allThere t v x n m zero = true
 allThere t v x n m (suc c) = anyBelow (startsIn t v x m) (size t) && allThere t v x n (m + n) c
 
--- an open contract, no option, whose parts are all listed and open
+-- an open contract, no option, of the longer maturity
+abbrev pub wholeOf : Table → Tier → Listed → Bool
+wholeOf t x c = not (optionIn t (c .instrument)) && (alike (c .maturity) (x .whole) && isOpen t c)
+
+-- whose parts are all listed and open
 abbrev pub isListed : Table → Tier → ℕ → Bool
-isListed t x i =
-    not (optionIn t (nth t i .instrument))
-    && ((alike (nth t i .maturity) (x .whole) && isOpen t (nth t i))
-    && allThere t (nth t i .instrument) (x .part) (x .months) (monthOf (nth t i .first)) (x .count))
+isListed t x i = wholeOf t x (nth t i) && allThere t (nth t i .instrument) (x .part) (x .months) (monthOf (nth t i .first)) (x .count)
 
 abbrev pub relationOf : Table → Tier → ℕ → Relation
 relationOf t x i = record { first = i; others = parts t (nth t i .instrument) (x .part) (x .months) (monthOf (nth t i .first)) (x .count) }

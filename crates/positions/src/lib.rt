@@ -1,4 +1,9 @@
 // From what an account holds of each contract to its position on every line, before netting and after it.
+mod breakdown;
+mod netting;
+mod positions;
+mod relation;
 mod step;
 
-pub use step::is_opposite;
+pub use positions::Positions;
+pub use positions::positions_of;
