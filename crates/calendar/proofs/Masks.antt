@@ -1,7 +1,7 @@
 -- The bits of a mask.
-use mathlib.Core.Path.{_≡_, refl, sym, ap, subst, _∙_}
+use mathlib.Core.Path.{_≡_, refl, sym, ap, _∙_}
 use mathlib.Core.Bool.{Bool, true, false, cond}
-use mathlib.Core.Logic.{_⊎_, inl, inr}
+use mathlib.Core.Logic.{inl, inr}
 use Prim.Native.Nat.{ℕ, zero, suc, _+_, _-_, _*_, _/_, _%_, _^_, _<_, _≤_}
 use native.Mathlib.Nat.{add-mul-div-right, pow-suc}
 use native.Mathlib.Omega.{arith}
@@ -9,7 +9,6 @@ use lib.Arith.{digits-div}
 use lib.Dec.{eqb}
 use lib.Pow.{pow-pos, pow-add}
 use Rattle.std.proofs.shelf.Tests.{cases-bool, cases-lt}
-use Rattle.calendar.specs.Hours.{deliveredIn}
 use Rattle.calendar.specs.Loads.{maskTo, maskOf, loadMask, delivers, Hour-by-hour}
 use Rattle.calendar.specs.declared.load.Load.{Load}
 

@@ -1,15 +1,14 @@
 -- Periods by the months, quarters and years that they are made of.
 use mathlib.Core.Path.{_≡_, refl, sym, ap, subst, _∙_}
-use mathlib.Core.Bool.{Bool, true, false, cond, _&&_, not}
-use mathlib.Core.Logic.{_⊎_, inl, inr}
-use Prim.Native.Nat.{ℕ, zero, suc, _+_, _-_, _*_, _/_, _%_, _<_, _≤_}
+use mathlib.Core.Bool.{true, not}
+use mathlib.Core.Logic.{inl, inr}
+use Prim.Native.Nat.{ℕ, zero, suc, _+_, _-_, _*_, _%_, _<_, _≤_}
 use native.Mathlib.Omega.{arith}
-use native.Mathlib.Numerals.{add-one}
-use lib.Dec.{eqb, leb, ltb}
-use Rattle.std.proofs.shelf.Tests.{cases-lt, cases-bool, and-parts, and-from, eqb-true, eq-eqb, ne-eqb, ltb-true, ltb-false, lt-ltb, le-ltb, cond-true, cond-false, not-from-true, not-from-false}
+use lib.Dec.{eqb, ltb}
+use Rattle.std.proofs.shelf.Tests.{cases-lt, and-parts, and-from, eqb-true, eq-eqb, ne-eqb, lt-ltb, le-ltb, cond-true, cond-false, not-from-true, not-from-false}
 use Rattle.std.specs.declared.option.Option.the-variants.{Some, None}
 use Rattle.days.specs.Days.{dayWithin}
-use Rattle.days.specs.Months.{monthOf, monthStart, monthEnd, monthLength}
+use Rattle.days.specs.Months.{monthOf, monthStart, monthEnd}
 use Rattle.days.proofs.Tiling.{month-next, month-within, month-only, start-mono, length-usual}
 use Rattle.calendar.specs.Periods.{startsOn, lastOf, firstOfMonth, Tiled, Made-of}
 use Rattle.calendar.specs.declared.maturity.Maturity.{Maturity}

@@ -1,14 +1,13 @@
 -- The published hours come out.
-use mathlib.Core.Path.{_≡_, refl, sym, ap, ap₂, _∙_}
-use mathlib.Core.Bool.{Bool, true, false, cond, _&&_}
-use Prim.Native.Nat.{ℕ, zero, suc, _+_, _-_, _*_, _/_, _%_, _^_, _<_, _≤_}
+use mathlib.Core.Path.{_≡_, refl, ap, ap₂, _∙_}
+use mathlib.Core.Bool.{true}
+use Prim.Native.Nat.{ℕ, zero, suc, _+_, _-_, _/_, _%_, _^_, _<_}
 use native.Mathlib.Nat.{pow-suc}
 use native.Mathlib.Omega.{arith}
 use lib.Count.{ones, onesIn, ones-step}
-use lib.Dec.{eqb}
 use Rattle.days.specs.Months.{monthOf, monthStart, monthLength, lengths, monthFrom, startFrom}
 use Rattle.days.specs.Days.{dayOf}
-use Rattle.calendar.specs.Examples.{Example, published, every}
+use Rattle.calendar.specs.Examples.{published, every}
 use Rattle.calendar.specs.Hours.{hoursFrom}
 use Rattle.calendar.specs.Loads.{loadMask, delivers, lastSundayOf}
 use Rattle.calendar.specs.declared.load.Load.the-variants.{Base}

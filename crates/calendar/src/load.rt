@@ -1,5 +1,5 @@
 ghost use mathlib.Core.Path.{_≡_};
-ghost use Prim.Native.Nat.{ℕ, _<_, _^_};
+ghost use Prim.Native.Nat.{_<_, _^_};
 ghost use Rattle.std.specs.declared.result.Result.the-variants.{Ok};
 ghost use Rattle.calendar.specs.declared.load.Load.the-variants.{Base, Peak};
 ghost use Rattle.calendar.specs.Loads.{loadOf, loadLetter, loadMask, maskOf, lastSundayOf, Hour-by-hour};

@@ -1,19 +1,18 @@
 -- A table with one row more keeps the rules.
-use mathlib.Core.Path.{_≡_, refl, sym, ap, subst, _∙_}
-use mathlib.Core.Bool.{Bool, true, false, cond, not, _&&_, _||_}
-use mathlib.Core.List.{List, [], _∷_, _++_, map}
-use mathlib.Core.Logic.{_⊎_, inl, inr}
-use Prim.Native.Nat.{ℕ, _+_, _<_, _≤_}
+use mathlib.Core.Path.{_≡_, refl, sym, ap, _∙_}
+use mathlib.Core.Bool.{Bool, true, false, cond, not, _&&_}
+use mathlib.Core.List.{List, [], _∷_, _++_}
+use mathlib.Core.Logic.{inl, inr}
+use Prim.Native.Nat.{ℕ, _+_, _<_}
 use native.Mathlib.Omega.{arith}
-use lib.Dec.{eqb, ltb, leb}
+use lib.Dec.{eqb, leb}
 use lib.IntN.{pos}
 use lib.ListN.{length, getD, take}
 use Rattle.std.proofs.shelf.Lists.{take-append-le, take-at, getD-append-left, getD-push, length-push}
-use Rattle.std.proofs.shelf.Tests.{cases-lt, cases-bool, and-parts, and-from, not-true, not-false, not-from-true, not-from-false, cond-true, cond-false, false≢true, le-leb, lt-leb, leb-false}
+use Rattle.std.proofs.shelf.Tests.{cases-lt, cases-bool, not-false, cond-true, cond-false, false≢true, leb-false}
 use Rattle.std.specs.Options.{isSome}
 use Rattle.std.specs.declared.option.Option.{Option}
 use Rattle.std.specs.declared.option.Option.the-variants.{Some, None}
-use Rattle.std.specs.declared.result.Result.{Result}
 use Rattle.std.specs.declared.result.Result.the-variants.{Ok, Err}
 use Rattle.terms.specs.Ranges.{holdsIn}
 use Rattle.terms.specs.declared.bounds.Bounds.the-variants.{Contract, Instrument}
@@ -21,8 +20,8 @@ use Rattle.terms.specs.declared.refusal.Refusal.{Refusal}
 use Rattle.terms.specs.declared.refusal.Refusal.the-variants.{OutOfRange, UnknownReference, RepeatedKey, DateRule, TooLong}
 use Rattle.calendar.specs.Periods.{startsOn, lastOf, periodOf}
 use Rattle.calendar.specs.declared.maturity.Maturity.{Maturity}
-use Rattle.contracts.specs.Table.{Instr, Listed, Table, size, blank, lastDay, kindIn, optionIn}
-use Rattle.contracts.specs.Rules.{instrumentRefusal, contractRefusal, isNumbered, isRepeated, keepsDates, isDue, lastBy, upTo, Instruments-kept, Contracts-kept}
+use Rattle.contracts.specs.Table.{Instr, Listed, Table, size, blank, kindIn}
+use Rattle.contracts.specs.Rules.{instrumentRefusal, contractRefusal, isNumbered, isRepeated, keepsDates, lastBy, upTo, Instruments-kept, Contracts-kept}
 use Rattle.contracts.specs.Views.{plusInstrument, plusContract}
 
 -- ---- a chain of refusals

@@ -1,14 +1,14 @@
 -- A walk that looks for one number, or for one row of a table, of which a test holds.
 use mathlib.Core.Path.{_≡_, refl, sym, ap, subst, _∙_}
-use mathlib.Core.Bool.{Bool, true, false, _||_}
-use mathlib.Core.List.{List, [], _∷_, map}
-use mathlib.Core.Logic.{_⊎_, inl, inr}
-use Prim.Native.Nat.{ℕ, zero, suc, _+_, _<_, _≤_}
+use mathlib.Core.Bool.{Bool, true, false}
+use mathlib.Core.List.{List, map}
+use mathlib.Core.Logic.{inl, inr}
+use Prim.Native.Nat.{ℕ, _+_, _<_, _≤_}
 use native.Mathlib.Omega.{arith}
 use native.Mathlib.Numerals.{add-one}
 use lib.ListN.{length, getD}
-use Rattle.std.proofs.shelf.Lists.{getD-map, getD-read, length-map}
-use Rattle.std.proofs.shelf.Tests.{or-from, or-left, or-right, cases-bool, both-ways}
+use Rattle.std.proofs.shelf.Lists.{getD-map, length-map}
+use Rattle.std.proofs.shelf.Tests.{or-from, cases-bool, both-ways}
 use Rattle.std.proofs.shelf.Ways.{decides-below-or}
 use Rattle.contracts.specs.Lines.{anyBelow}
 use Rattle.contracts.specs.Rows.{listed}

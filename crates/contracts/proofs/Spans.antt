@@ -1,13 +1,12 @@
 -- The hours of the days of a line, by a stretch outside which it does not deliver.
-use mathlib.Core.Path.{_≡_, refl, sym, ap, subst, _∙_}
+use mathlib.Core.Path.{_≡_, refl, ap}
 use mathlib.Core.Bool.{Bool, true, false, cond, not, _&&_, _||_}
-use mathlib.Core.Logic.{_⊎_, inl, inr}
 use Prim.Native.Nat.{ℕ, zero, suc, _+_, _-_, _<_, _≤_}
 use native.Mathlib.Omega.{arith}
 use native.Mathlib.Numerals.{add-one}
 use lib.Count.{ones}
 use lib.Dec.{eqb, ltb}
-use Rattle.std.proofs.shelf.Tests.{and-parts, ltb-true, eqb-true, cases-bool, cond-false}
+use Rattle.std.proofs.shelf.Tests.{and-parts, ltb-true, eqb-true, cond-false}
 use Rattle.days.specs.Months.{monthOf, monthStart}
 use Rattle.days.proofs.Tiling.{month-within, start-mono}
 use Rattle.contracts.specs.Hours.{hoursWhen}

@@ -1,11 +1,10 @@
 -- The lines of a table, which line takes a day, on which days a line delivers, and which lines a contract goes to.
-use mathlib.Core.Path.{_≡_}
-use mathlib.Core.Bool.{Bool, true, false, cond, not, _&&_, _||_}
+use mathlib.Core.Bool.{Bool, false, cond, not, _&&_, _||_}
 use mathlib.Core.List.{List, [], _∷_, _++_, map}
-use Prim.Native.Nat.{ℕ, zero, suc, _+_, _-_, _<_, _≤_}
+use Prim.Native.Nat.{ℕ, zero, suc, _+_, _-_}
 use lib.Dec.{eqb, ltb, leb}
 use Rattle.std.specs.Iters.{counting}
-use Rattle.days.specs.Months.{monthOf, monthStart}
+use Rattle.days.specs.Months.{monthOf}
 use Rattle.calendar.specs.Periods.{alike}
 use Rattle.calendar.specs.declared.maturity.Maturity.the-variants.{SingleDay, Weekend, Workdays, Week}
 use Rattle.contracts.specs.Table.{Listed, Table, numbers, size, nth, lastDay, isOpen, covers}

@@ -1,6 +1,4 @@
 -- What the code's rows stand for. Names no struct that has the rules as its ghost fields.
-use mathlib.Core.List.{List, map}
-use Prim.Native.Nat.{ℕ}
 use Rattle.std.specs.declared.option.Option.{Option}
 use Rattle.std.specs.declared.option.Option.the-variants.{Some, None}
 use Rattle.contracts.specs.Table.{Instr, Listed, blank}

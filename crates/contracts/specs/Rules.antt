@@ -1,8 +1,8 @@
 -- The rules of a contract table: what a row that is added is refused for, by number.
 use mathlib.Core.Path.{_≡_}
 use mathlib.Core.Bool.{Bool, true, false, cond, not, _&&_, _||_}
-use mathlib.Core.List.{List, [], _∷_, _++_, map}
-use Prim.Native.Nat.{ℕ, _+_, _<_, _≤_}
+use mathlib.Core.List.{List, [], _∷_}
+use Prim.Native.Nat.{ℕ, _+_, _<_}
 use lib.Dec.{eqb, ltb, leb}
 use lib.IntN.{pos}
 use lib.ListN.{getD, length, take}
@@ -12,14 +12,14 @@ use Rattle.std.specs.declared.option.Option.the-variants.{Some, None}
 use Rattle.std.specs.declared.result.Result.{Result}
 use Rattle.std.specs.declared.result.Result.the-variants.{Ok, Err}
 use Rattle.terms.specs.Ranges.{holdsIn}
-use Rattle.terms.specs.declared.bounds.Bounds.the-variants.{Contract, Instrument, DayOffset}
+use Rattle.terms.specs.declared.bounds.Bounds.the-variants.{Contract, Instrument}
 use Rattle.terms.specs.declared.refusal.Refusal.{Refusal}
 use Rattle.terms.specs.declared.refusal.Refusal.the-variants.{OutOfRange, UnknownReference, RepeatedKey, DateRule, TooLong}
 use Rattle.days.specs.Months.{monthOf}
-use Rattle.calendar.specs.Periods.{startsOn, lastOf, alike}
+use Rattle.calendar.specs.Periods.{startsOn, alike}
 use Rattle.calendar.specs.declared.maturity.Maturity.{Maturity}
 use Rattle.calendar.specs.declared.maturity.Maturity.the-variants.{SingleDay, Weekend, Workdays, Week, RestOfMonth, Month, Quarter, Season, Year}
-use Rattle.contracts.specs.Table.{Instr, Listed, Table, numbers, size, blank, lastDay, isOpen, kindIn, optionIn}
+use Rattle.contracts.specs.Table.{Instr, Listed, Table, size, blank, lastDay, isOpen, kindIn, optionIn}
 
 -- ---- the dates of the table
 -- the horizon lies 1 to 14 days after the date, else 2

@@ -1,5 +1,5 @@
 -- What a line of the code stands for.
-use mathlib.Core.Bool.{Bool, cond}
+use mathlib.Core.Bool.{cond}
 use Prim.Native.Nat.{ℕ, _+_}
 use Rattle.days.specs.Months.{monthOf}
 use Rattle.contracts.specs.Lines as spec

@@ -1,15 +1,14 @@
 -- A contract table as lists and numbers. Days and months are numbers, as in the calendar.
-use mathlib.Core.Bool.{Bool, true, false, cond, not, _&&_, _||_}
+use mathlib.Core.Bool.{Bool, false, cond, _&&_}
 use mathlib.Core.List.{List, [], _∷_, map}
-use Prim.Native.Nat.{ℕ, _+_}
+use Prim.Native.Nat.{ℕ}
 use lib.Dec.{eqb, ltb, leb}
 use lib.ListN.{getD, length}
 use Rattle.std.specs.declared.option.Option.{Option}
 use Rattle.std.specs.declared.option.Option.the-variants.{Some, None}
-use Rattle.days.specs.Months.{monthOf}
-use Rattle.calendar.specs.Periods.{lastOf, alike}
+use Rattle.calendar.specs.Periods.{lastOf}
 use Rattle.calendar.specs.declared.maturity.Maturity.{Maturity}
-use Rattle.calendar.specs.declared.maturity.Maturity.the-variants.{SingleDay, Weekend, Workdays, Week, RestOfMonth, Month, Quarter, Season, Year}
+use Rattle.calendar.specs.declared.maturity.Maturity.the-variants.{SingleDay}
 use Rattle.contracts.specs.Kinds.{isOption}
 use Rattle.contracts.specs.declared.kind.Kind.{Kind}
 

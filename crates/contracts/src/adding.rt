@@ -1,13 +1,12 @@
 ghost use mathlib.Core.Path.{_≡_};
 ghost use mathlib.Core.Bool.{true, cond};
-ghost use mathlib.Core.List.{map};
-ghost use Prim.Native.Nat.{_<_, _≤_};
+ghost use mathlib.Core.List.{[], _∷_, _++_, map};
+ghost use Prim.Native.Nat.{_<_};
 ghost use Rattle.std.specs.Results.{isOk};
-ghost use Rattle.std.specs.Of.Vec.{vec-items, vec-len};
+ghost use Rattle.std.specs.Of.Vec.{vec-items};
 ghost use Rattle.std.specs.Vec.{made};
 ghost use Rattle.terms.specs.Told.{Told};
 ghost use Rattle.days.specs.Days.{dayIn};
-ghost use Rattle.calendar.specs.Periods.{alike};
 ghost use Rattle.contracts.specs.Kinds.{isOption};
 ghost use Rattle.contracts.specs.Table.{kindIn, lastDay, isOpen};
 ghost use Rattle.contracts.specs.Rules.{datesAnswer, instrumentRefusal, contractRefusal, sameKey, isRepeated, isNear, isLong, onTime, isDue, answerBy, lastBy};
@@ -64,6 +63,7 @@ impl<P: Drop> ContractTable<P> {
     pub fn add_instrument(&mut self, instrument: Instrument<P>) -> Result<(), Refusal>
         ensures answer { λ r. ⌜ r ≡ answerBy (instrumentRefusal (tableOf (now (self .entry)) .instruments) (instrument .number)) ⌝ }
         ensures table { λ r. ⌜ tableOf (now (self .exit)) ≡ cond (isOk r) (plusInstrument (tableOf (now (self .entry))) (instr instrument)) (tableOf (now (self .entry))) ⌝ }
+        ensures profiles { λ r. ⌜ vec-items (now (self .exit) .instruments) ≡ cond (isOk r) (vec-items (now (self .entry) .instruments) ++ instrument ∷ []) (vec-items (now (self .entry) .instruments)) ⌝ }
     {
         if !Bounds::Instrument.holds(i64::from(instrument.number)) {
             return Err(Refusal::OutOfRange);
@@ -82,6 +82,7 @@ impl<P: Drop> ContractTable<P> {
     pub fn add_contract(&mut self, terms: Terms) -> Result<(), Refusal>
         ensures answer { λ r. ⌜ r ≡ answerBy (contractRefusal (tableOf (now (self .entry))) (saidIn terms)) ⌝ }
         ensures table { λ r. ⌜ tableOf (now (self .exit)) ≡ cond (isOk r) (plusContract (tableOf (now (self .entry))) (saidIn terms)) (tableOf (now (self .entry))) ⌝ }
+        ensures profiles { λ _. ⌜ vec-items (now (self .exit) .instruments) ≡ vec-items (now (self .entry) .instruments) ⌝ }
     {
         let last = self.last_day_of(terms)?;
         self.contracts.push_reserved(Contract { terms, last });

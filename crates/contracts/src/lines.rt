@@ -1,5 +1,5 @@
 ghost use mathlib.Core.Path.{_≡_};
-ghost use mathlib.Core.List.{map, _++_, _∷_, []};
+ghost use mathlib.Core.List.{map, _++_};
 ghost use Prim.Native.Nat.{_+_, _-_};
 ghost use Rattle.std.specs.Iters.{counting};
 ghost use Rattle.std.specs.Of.Vec.{vec-items};

@@ -1,12 +1,11 @@
 ghost use mathlib.Core.Path.{_≡_};
 ghost use mathlib.Core.Bool.{cond};
-ghost use Prim.Native.Nat.{ℕ, _+_, _<_, _≤_};
-ghost use Rattle.std.specs.Of.Vec.{vec-items, vec-len};
+ghost use Prim.Native.Nat.{_+_, _<_};
 ghost use Rattle.days.specs.Months.{monthOf};
-ghost use Rattle.contracts.specs.Lines.{within, weekWith, partWith, someWeek, somePart, ownTakesBy, rest, takes, delivers, isDayLine, isOwnLine, gives, instrOf, reaches, hasLine};
+ghost use Rattle.contracts.specs.Lines.{within, weekWith, partWith, someWeek, somePart, ownTakesBy, rest, takes, delivers};
 ghost use Rattle.contracts.specs.Rows.{listed, rowIn};
 ghost use Rattle.contracts.specs.Seen.{seen};
-ghost use Rattle.contracts.specs.Table.{covers, isOpen, nth, size};
+ghost use Rattle.contracts.specs.Table.{covers, nth, size};
 ghost use Rattle.std.specs.Options.{isSome};
 ghost use lib.Dec.{ltb};
 ghost use Rattle.contracts.specs.Views.{tableOf};

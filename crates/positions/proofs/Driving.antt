@@ -1,24 +1,18 @@
 -- Relations netted one after another.
-use mathlib.Core.Path.{_≡_, refl, sym, ap, ap₂, subst, _∙_}
-use mathlib.Core.Bool.{Bool, true, false, cond, _&&_, _||_}
+use mathlib.Core.Path.{_≡_, refl, sym, ap, ap₂, _∙_}
+use mathlib.Core.Bool.{Bool, true, false, cond, _&&_}
 use mathlib.Core.List.{List, [], _∷_, _++_}
-use mathlib.Core.Logic.{_⊎_, inl, inr}
-use Prim.Native.Nat.{ℕ, zero, suc, _+_, _-_, _<_, _≤_, _^_, min}
+use Prim.Native.Nat.{ℕ, suc, _+_, _-_, _<_, _≤_, min}
 use native.Mathlib.Omega.{arith}
 use lib.IntN.{ℤ, pos, natAbs}
-use lib.ListN.{length, getD}
 use lib.Signed.{_≤ℤ_}
 use borrow.Author.Differences.{ints, abs-is}
 use Rattle.std.specs.Iters.{counting}
 use Rattle.std.proofs.shelf.Signed.{by-ltZ}
-use Rattle.std.proofs.shelf.Tests.{cases-bool, cond-true, cond-false}
 use Rattle.contracts.specs.Table.{Table, size}
 use Rattle.positions.specs.Net.{Places, Relation, opposite, allOpposite, arbitrage, smallest, towards, isIn, net, netAll, Nearer}
 use Rattle.positions.specs.Netted.{Tier, isListed, relationOf, relationsOver}
-use Rattle.positions.specs.Steps.{Distinct}
-use Rattle.positions.proofs.Conserving.{Below, Whole, All-whole}
-use Rattle.positions.proofs.Good.{Good}
-use Rattle.positions.proofs.Parts.{Sound, relation-whole}
+use Rattle.positions.proofs.Conserving.{Below, All-whole}
 use Rattle.positions.proofs.Signs.{netAll-nearer}
 
 -- ---- netting of equal positions

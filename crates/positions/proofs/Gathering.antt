@@ -1,7 +1,7 @@
 -- Positions gathered one after another.
 use mathlib.Core.Path.{_≡_, refl, sym, ap, subst, _∙_}
 use mathlib.Core.List.{List, [], _∷_, _++_, map}
-use mathlib.Core.Logic.{_⊎_, inl, inr}
+use mathlib.Core.Logic.{inl, inr}
 use Prim.Native.Nat.{ℕ, _+_, _<_, _≤_, _^_}
 use native.Mathlib.Omega.{arith}
 use lib.Dec.{lit≤}
@@ -22,11 +22,11 @@ use Rattle.contracts.specs.Views.{tableOf}
 use Rattle.contracts.specs.declared.line.Line.{Line}
 use Rattle.contracts.specs.declared.table.ContractTable.{ContractTable}
 use Rattle.positions.specs.Net.{placed, netAll}
-use Rattle.positions.specs.Netted.{position, owned, netted, relations}
+use Rattle.positions.specs.Netted.{owned, netted, relations}
 use Rattle.positions.specs.Results.{nettedBy, Own-are}
 use Rattle.positions.proofs.Count.{all-listed}
 use Rattle.positions.proofs.Driving.{agree}
-use Rattle.positions.proofs.Good.{Good, good}
+use Rattle.positions.proofs.Good.{good}
 use Rattle.positions.proofs.Kept.{all-whole}
 use Rattle.positions.proofs.Taking.{OfTable}
 

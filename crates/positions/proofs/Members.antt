@@ -1,6 +1,6 @@
 -- The members of a relation of a table: places of the table, none twice.
-use mathlib.Core.Path.{_≡_, sym, ap, subst, _∙_}
-use mathlib.Core.Bool.{Bool, true}
+use mathlib.Core.Path.{_≡_, sym, ap, subst}
+use mathlib.Core.Bool.{true}
 use mathlib.Core.List.{List, [], _∷_}
 use Prim.Native.Nat.{ℕ, zero, suc, _-_, _<_}
 use native.Mathlib.Omega.{arith}
@@ -8,7 +8,6 @@ use lib.ListN.{length, getD, take}
 use Rattle.contracts.specs.Table.{Table, size}
 use Rattle.contracts.specs.Views.{tableOf}
 use Rattle.contracts.specs.declared.table.ContractTable.{ContractTable}
-use Rattle.positions.specs.Net.{Relation}
 use Rattle.positions.specs.Netted as spec
 use Rattle.positions.specs.Netted.{isListed, relationOf}
 use Rattle.positions.specs.Steps.{Distinct}

@@ -1,9 +1,8 @@
 -- One relation, place by place.
 use mathlib.Core.Path.{_≡_}
-use mathlib.Core.Bool.{Bool, true, false, cond}
+use mathlib.Core.Bool.{false, cond}
 use mathlib.Core.List.{List, [], _∷_}
 use Prim.Native.Nat.{ℕ}
-use lib.IntN.{ℤ}
 use Rattle.positions.specs.Net.{Relation, Places, towards, isIn}
 
 -- a size taken off at each of the places

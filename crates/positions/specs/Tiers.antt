@@ -1,12 +1,10 @@
 -- The three kinds of relation, as the code names them, and the parts that it finds.
 use mathlib.Core.Path.{_≡_}
 use mathlib.Core.Bool.{Bool, true, false}
-use mathlib.Core.List.{List}
 use Prim.Native.Nat.{ℕ}
 use lib.ListN.{take}
 use Rattle.contracts.specs.Table.{Table}
 use Rattle.contracts.specs.Lines.{anyBelow}
-use Rattle.positions.specs.Net.{Relation}
 use Rattle.positions.specs.Netted as spec
 use Rattle.positions.specs.Netted.{seek, parts, allThere, isListed, relationOf, years, seasons, quarters}
 use Rattle.std.specs.declared.option.Option.{Option}

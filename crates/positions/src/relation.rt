@@ -1,5 +1,5 @@
 ghost use mathlib.Core.Path.{_≡_};
-ghost use Prim.Native.Nat.{ℕ, _≤_, _<_};
+ghost use Prim.Native.Nat.{_≤_, _<_};
 ghost use Rattle.contracts.specs.Rows.{listed};
 ghost use Rattle.contracts.specs.Table.{size, optionIn};
 ghost use Rattle.contracts.specs.Views.{tableOf};

@@ -3,7 +3,7 @@ ghost use Prim.Native.Nat.{ℕ, _≤_, _<_, _^_};
 ghost use mathlib.Core.List.{_∷_};
 ghost use lib.ListN.{length, getD};
 ghost use lib.IntN.{natAbs};
-ghost use Rattle.positions.specs.Net.{placed, opposite, allOpposite, smallest, towards, isIn, net};
+ghost use Rattle.positions.specs.Net.{placed, opposite, allOpposite, smallest, towards, net};
 ghost use Rattle.positions.specs.Steps.{taken, related, Distinct};
 
 // One above 0, the other below.

@@ -1,6 +1,5 @@
 -- The named ranges of numbers.
 use mathlib.Core.Bool.{Bool, cond, _&&_}
-use Prim.Native.Nat.{ℕ}
 use lib.IntN.{ℤ, pos, negℤ}
 use lib.Signed.{leZ}
 use Rattle.std.specs.declared.result.Result.{Result}

@@ -1,5 +1,4 @@
-ghost use mathlib.Core.Path.{_≡_};
-ghost use lib.IntN.{ℤ, pos, _+ℤ_, negℤ, natAbs};
+ghost use lib.IntN.{pos, _+ℤ_, negℤ, natAbs};
 ghost use Rattle.terms.specs.Amounts.{any, no-amount, amount-plus, amount-minus, amount-size, any-amount, no-gains, gains-plus, gains-minus, gains-size, sixteen};
 use crate::additive::Additive;
 

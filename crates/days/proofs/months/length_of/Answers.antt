@@ -1,5 +1,4 @@
 use mathlib.Core.Path.{refl}
-use native.Mathlib.Omega.{arith}
 use Rattle.days.specs.Months.{monthLength, lengths}
 use Rattle.days.proofs.Tiling.{length-usual}
 use Rattle.days.proofs.months.length_of.Needs as need

@@ -1,5 +1,5 @@
 use mathlib.Core.Path.{_≡_, refl, sym, ap, subst, _∙_}
-use Prim.Native.Nat.{ℕ, _+_, _-_, _*_, _<_, _≤_, _^_}
+use Prim.Native.Nat.{_+_, _-_, _≤_, _^_}
 use native.Mathlib.Omega.{arith}
 use lib.IntN.{pos, _+ℤ_, natAbs}
 use lib.ListN.{length, take}
@@ -11,7 +11,7 @@ use Rattle.std.specs.Of.Vec.{vec-items}
 use Rattle.std.specs.shelf.Lists.{folded, sumBy}
 use Rattle.contracts.specs.Views.{tableOf}
 use Rattle.positions.specs.Sums.{sumTo}
-use Rattle.positions.proofs.Shares.{Written, none-written, one-written, summed, sized, folded-size, few-items}
+use Rattle.positions.proofs.Shares.{none-written, one-written, summed, sized, folded-size, few-items}
 use Rattle.positions.proofs.breakdown.position_of.Needs as need
 
 pub loop-i-holds : need.loop-i-holds

@@ -1,10 +1,8 @@
-use mathlib.Core.Path.{_≡_, refl, sym, ap, subst, _∙_}
-use mathlib.Core.Bool.{true, cond}
+use mathlib.Core.Path.{_≡_, sym, ap, subst, _∙_}
 use mathlib.Core.List.{List, [], _∷_}
-use Prim.Native.Nat.{ℕ, _≤_, _<_, _-_, _^_}
+use Prim.Native.Nat.{ℕ, _≤_, _-_, _^_}
 use lib.IntN.{natAbs}
 use lib.ListN.{length, take}
-use Rattle.contracts.specs.Table.{size}
 use Rattle.contracts.specs.Views.{tableOf}
 use Rattle.std.proofs.shelf.Tests.{cond-true}
 use Rattle.positions.specs.Net.{Relation, placed, net, netAll}

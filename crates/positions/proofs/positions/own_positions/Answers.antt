@@ -1,4 +1,4 @@
-use mathlib.Core.Path.{_≡_, refl, sym, ap, subst, _∙_}
+use mathlib.Core.Path.{_≡_, sym, subst, _∙_}
 use Prim.Native.Nat.{_≤_, _^_}
 use lib.IntN.{natAbs}
 use native.Mathlib.Omega.{arith}
@@ -12,7 +12,6 @@ use Rattle.contracts.specs.Rows.{listed}
 use Rattle.contracts.specs.Table.{size}
 use Rattle.contracts.specs.Views.{tableOf}
 use Rattle.positions.specs.Net.{placed}
-use Rattle.positions.specs.Netted.{owned}
 use Rattle.positions.proofs.Gathering.{none-gathered, one-gathered, all-gathered}
 use Rattle.positions.proofs.positions.own_positions.Needs as need
 

@@ -4,7 +4,7 @@ use native.Mathlib.Omega.{arith}
 use lib.ListN.{take}
 use Rattle.contracts.specs.Views.{tableOf}
 use Rattle.positions.specs.Netted.{parts, allThere}
-use Rattle.positions.proofs.Finding.{Sofar, none-yet, one-lacks, one-more, all-found, of-tier}
+use Rattle.positions.proofs.Finding.{none-yet, one-lacks, one-more, all-found, of-tier}
 use Rattle.positions.proofs.relation.find_parts.Needs as need
 
 pub loop-k-holds : need.loop-k-holds

@@ -1,4 +1,3 @@
-use mathlib.Core.Path.{_≡_}
 use Rattle.contracts.specs.Views.{tableOf}
 use Rattle.positions.proofs.Finding.{Sofar}
 use Rattle.positions.proofs.relation.find_parts.Given as given

@@ -1,6 +1,5 @@
-use mathlib.Core.Path.{_≡_, refl, sym, ap, _∙_}
+use mathlib.Core.Path.{_≡_, ap}
 use native.Mathlib.Omega.{arith}
-use Prim.Native.Nat.{_+_, _≤_, min}
 use lib.ListN.{getD, drop}
 use lib.IntN.{pos, natAbs}
 use borrow.Author.Needs.{needs}

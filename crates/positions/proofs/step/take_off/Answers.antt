@@ -1,7 +1,7 @@
-use mathlib.Core.Path.{_≡_, refl, sym, ap, subst, _∙_}
+use mathlib.Core.Path.{_≡_, ap, _∙_}
 use native.Mathlib.Omega.{arith}
-use Prim.Native.Nat.{ℕ, _+_, _≤_, _<_, _^_}
-use lib.ListN.{length, getD, take, set}
+use Prim.Native.Nat.{ℕ, _≤_, _<_, _^_}
+use lib.ListN.{length, getD, set}
 use lib.Seq.{take-all}
 use lib.IntN.{ℤ, pos, natAbs}
 use borrow.Author.Needs.{needs}

@@ -1,10 +1,10 @@
-use mathlib.Core.Path.{_≡_, sym, ap, _∙_}
-use Prim.Native.Nat.{_+_, _≤_}
+use mathlib.Core.Path.{sym, ap, _∙_}
+use Prim.Native.Nat.{_+_}
 use native.Mathlib.Omega.{arith}
-use lib.ListN.{take, getD}
-use Rattle.std.proofs.shelf.Lists.{getD-read, take-all}
+use lib.ListN.{take}
+use Rattle.std.proofs.shelf.Lists.{take-all}
 use Rattle.std.proofs.shelf.Sums.{folded-more, sumBy-more, sumBy-take-le}
-use Rattle.terms.specs.Laws.{added, sizes}
+use Rattle.terms.specs.Laws.{added}
 use Rattle.terms.proofs.additive.total.Needs as need
 
 pub sum-sum-requires : need.sum-sum-requires

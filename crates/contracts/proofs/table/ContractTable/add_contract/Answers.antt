@@ -1,22 +1,20 @@
 use mathlib.Core.Path.{_≡_, refl, sym, ap, subst, _∙_}
-use mathlib.Core.Bool.{Bool, true, false, cond}
+use mathlib.Core.Bool.{cond}
 use mathlib.Core.List.{List, _∷_, [], _++_, map}
-use Prim.Native.Nat.{ℕ, _<_, _≤_}
 use native.Mathlib.Omega.{arith}
-use lib.ListN.{length}
 use Rattle.std.proofs.shelf.Lists.{length-map, map-push}
 use Rattle.std.proofs.shelf.Results.{err-from-errBy}
-use Rattle.std.specs.Of.Vec.{vec-items, vec-len}
+use Rattle.std.specs.Of.Vec.{vec-items}
 use Rattle.std.specs.Options.{isSome}
 use Rattle.std.specs.Results.{isOk}
 use Rattle.std.specs.declared.result.Result.{Result}
-use Rattle.std.specs.declared.result.Result.the-variants.{Ok, Err}
+use Rattle.std.specs.declared.result.Result.the-variants.{Err}
 use Rattle.terms.specs.declared.refusal.Refusal.{Refusal}
-use Rattle.contracts.specs.Table.{Listed, Table, size, lastDay}
+use Rattle.contracts.specs.Table.{Listed}
 use Rattle.contracts.specs.Rows.{listed, saidIn}
-use Rattle.contracts.specs.Rules.{contractRefusal, Contracts-kept, answerBy, lastBy}
+use Rattle.contracts.specs.Rules.{Contracts-kept, answerBy}
 use Rattle.contracts.specs.Views.{tableOf, plusContract}
-use Rattle.contracts.proofs.Keeping.{lastBy-ok, lastBy-err, passes-all, contracts-more, few-lt}
+use Rattle.contracts.proofs.Keeping.{lastBy-ok, lastBy-err, contracts-more, few-lt}
 use Rattle.contracts.proofs.table.ContractTable.add_contract.Needs as need
 
 pub returns-in-Break-last : need.returns-in-Break-last
@@ -27,6 +25,7 @@ returns-in-Break-last g c =
     record {
       answer = p .1 ∙ ap Err (p .2) ∙ ap answerBy (sym none);
       table = sym (ap (λ (r : Result (Unit {0}) Refusal). cond (isOk r) (plusContract t (saidIn (c .args .terms))) t) (p .1));
+      profiles = refl;
     }
 
 pub ghost-push-reserved : need.ghost-push-reserved
@@ -60,4 +59,5 @@ returns g c =
     record {
       answer = ap answerBy (sym (ok .1));
       table = ap (λ (cs : List Listed). record { date = s .date .number; horizon = s .horizon .number; instruments = tableOf s .instruments; contracts = cs }) rows;
+      profiles = refl;
     }

@@ -1,7 +1,6 @@
 use mathlib.Core.Path.{_≡_, refl, sym, ap, subst, _∙_}
-use mathlib.Core.Bool.{Bool, true, false, not}
+use mathlib.Core.Bool.{true, false}
 use mathlib.Core.List.{List, _∷_, [], _++_, map}
-use Prim.Native.Nat.{ℕ, _<_, _≤_}
 use native.Mathlib.Omega.{arith}
 use lib.Dec.{leb}
 use lib.IntN.{pos}
@@ -9,15 +8,13 @@ use lib.ListN.{length}
 use borrow.Author.Needs.{needs}
 use Rattle.std.proofs.shelf.Lists.{length-map, map-push}
 use Rattle.std.proofs.shelf.Tests.{le-leb, lt-leb}
-use Rattle.std.specs.Of.Vec.{vec-items, vec-len}
+use Rattle.std.specs.Of.Vec.{vec-items}
 use Rattle.std.specs.Options.{isSome}
-use Rattle.std.specs.declared.option.Option.the-variants.{None, Some}
 use Rattle.terms.specs.Ranges.{holdsIn}
 use Rattle.terms.specs.declared.bounds.Bounds.the-variants.{Instrument}
-use Rattle.terms.specs.declared.refusal.Refusal.the-variants.{TooLong}
-use Rattle.contracts.specs.Table.{Instr, Listed, Table}
+use Rattle.contracts.specs.Table.{Instr}
 use Rattle.contracts.specs.Rows.{instr}
-use Rattle.contracts.specs.Rules.{instrumentRefusal, isNumbered, answerBy, Instruments-kept, Contracts-kept}
+use Rattle.contracts.specs.Rules.{isNumbered, answerBy, Instruments-kept, Contracts-kept}
 use Rattle.contracts.specs.Views.{tableOf}
 use Rattle.contracts.proofs.Keeping.{instruments-more, contracts-still, full-instruments, few-instruments}
 use Rattle.contracts.proofs.table.ContractTable.add_instrument.Given as given
@@ -33,7 +30,7 @@ returns-then-len-ge8 g c =
     let m = c .args .self .now .instruments .ok .0 in
     let l = c .len .ensures in
     let full : leb 8 (length is) ≡ true = le-leb 8 (length is) (omega arith) in
-    record { answer = ap answerBy (sym (full-instruments is u range fresh full)); table = refl }
+    record { answer = ap answerBy (sym (full-instruments is u range fresh full)); table = refl; profiles = refl }
 
 rows : (g : given.Over) (c : need.After-push-reserved g) → map instr (vec-items (c .push-reserved .last .self)) ≡ tableOf (c .args .self .now) .instruments ++ instr (c .args .instrument) ∷ []
 rows g c = ap (map instr) (c .push-reserved .ensures .items) ∙ map-push instr (vec-items (c .args .self .now .instruments)) (c .args .instrument)
@@ -71,4 +68,5 @@ returns g c =
     record {
       answer = ap answerBy (sym none);
       table = ap (λ (is : List Instr). record { date = s .date .number; horizon = s .horizon .number; instruments = is; contracts = tableOf s .contracts }) row;
+      profiles = c .push-reserved .ensures .items;
     }

@@ -1,6 +1,6 @@
-use mathlib.Core.Path.{_≡_, sym, ap, subst, _∙_}
+use mathlib.Core.Path.{_≡_, sym, subst}
 use mathlib.Core.Bool.{false, _&&_}
-use Prim.Native.Nat.{suc, _+_, _<_}
+use Prim.Native.Nat.{suc}
 use native.Mathlib.Omega.{arith}
 use lib.Dec.{leb, ltb}
 use Rattle.std.proofs.shelf.Tests.{and-left, lt-leb}

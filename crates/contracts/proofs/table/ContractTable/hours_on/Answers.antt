@@ -1,9 +1,9 @@
-use mathlib.Core.Path.{_≡_, refl, sym, ap, subst, _∙_}
+use mathlib.Core.Path.{_≡_, refl, sym, ap, _∙_}
 use mathlib.Core.List.{List}
-use Prim.Native.Nat.{_+_, _<_}
+use Prim.Native.Nat.{_+_}
 use lib.Count.{ones}
 use lib.Dec.{lit≤}
-use lib.ListN.{length, getD, drop}
+use lib.ListN.{drop}
 use Rattle.std.proofs.shelf.Lists.{at-drop-all}
 use Rattle.contracts.specs.Hours.{maskIn}
 use Rattle.contracts.specs.declared.contract.Instrument.{Instrument}

@@ -1,20 +1,17 @@
-use mathlib.Core.Path.{_≡_, refl, sym, ap, subst, _∙_}
-use mathlib.Core.Bool.{Bool, true, false, _&&_}
-use Prim.Native.Nat.{ℕ, _<_, _≤_}
+use mathlib.Core.Path.{_≡_, sym, ap, subst, _∙_}
+use mathlib.Core.Bool.{true, false, _&&_}
 use native.Mathlib.Omega.{arith}
 use lib.Dec.{leb}
 use lib.IntN.{pos}
-use lib.ListN.{length}
 use borrow.Author.Needs.{needs}
 use Rattle.std.proofs.shelf.Lists.{length-map}
 use Rattle.std.proofs.shelf.Tests.{and-from, and-left, le-leb, lt-leb}
 use Rattle.std.proofs.shelf.Results.{err-from-errBy}
-use Rattle.std.specs.Of.Vec.{vec-items, vec-len}
+use Rattle.std.specs.Of.Vec.{vec-items}
 use Rattle.std.specs.Options.{isSome}
 use Rattle.std.specs.declared.result.Result.the-variants.{Ok, Err}
 use Rattle.terms.specs.Ranges.{holdsIn}
 use Rattle.terms.specs.declared.bounds.Bounds.the-variants.{Contract, Instrument}
-use Rattle.terms.specs.declared.refusal.Refusal.the-variants.{DateRule, TooLong}
 use Rattle.days.specs.Days.{dayIn}
 use Rattle.calendar.specs.Periods.{startsOn}
 use Rattle.contracts.specs.Table.{size, lastDay, optionIn, isSomeOption}

@@ -1,8 +1,6 @@
 use mathlib.Core.Path.{_≡_, sym, subst, _∙_}
-use Prim.Native.Nat.{ℕ}
-use lib.IntN.{ℤ, natAbs}
+use lib.IntN.{natAbs}
 use mir.Syntax.{w64}
-use mir.Val.{SFits, toZ, ofZ}
 use Rattle.std.specs.Numbers.{Unsigned}
 use Rattle.std.proofs.shelf.Signed.{toZ-ofZ}
 use Rattle.days.specs.Days.{Named}

@@ -1,7 +1,6 @@
-use mathlib.Core.Path.{_≡_, refl}
 use native.Mathlib.Omega.{arith}
-use Prim.Native.Nat.{_+_, _<_, _^_, max}
-use lib.IntN.{_+ℤ_, natAbs}
+use Prim.Native.Nat.{_+_}
+use lib.IntN.{_+ℤ_}
 use borrow.Author.Needs.{needs}
 use borrow.Author.Differences.{ints, abs-is}
 use mir.Syntax.{w64}

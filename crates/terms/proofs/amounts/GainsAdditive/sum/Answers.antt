@@ -1,15 +1,12 @@
-use mathlib.Core.Path.{_≡_, sym, ap, _∙_}
-use Prim.Native.Nat.{_≤_}
+use mathlib.Core.Path.{ap}
 use native.Mathlib.Omega.{arith}
 use lib.IntN.{ℤ, pos, _+ℤ_, natAbs}
-use lib.ListN.{length, getD}
+use lib.ListN.{getD}
 use borrow.Author.Needs.{needs}
 use borrow.Author.Differences.{ints, abs-is}
 use mir.Syntax.{w64}
-use mir.Val.{SFits, toZ, ofZ}
+use mir.Val.{SFits}
 use Rattle.std.proofs.shelf.Signed.{toZ-ofZ}
-use Rattle.terms.specs.Amounts.{gains-size}
-use Rattle.terms.specs.declared.amounts.Gains.{Gains}
 use Rattle.terms.proofs.Rows.{at-size, none-written, one-written, all-written, row-plus-at}
 use Rattle.terms.proofs.amounts.GainsAdditive.sum.Needs as need
 
