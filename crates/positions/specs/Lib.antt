@@ -5,3 +5,4 @@ pub mod Netted
 pub mod Tiers
 pub mod Law
 pub mod Results
+pub mod Examples
