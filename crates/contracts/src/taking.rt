@@ -95,7 +95,7 @@ impl<P: Drop> ContractTable<P> {
     {
         let this = self.date.month();
         let month = if next { this + 1 } else { this };
-        self.horizon.number < day.number
+        day.number > self.horizon.number
             && (day.month() == month
                 && !(self.has_week(instrument, day) || self.has_part(instrument, day)))
     }

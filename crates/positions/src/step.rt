@@ -1,5 +1,5 @@
 ghost use mathlib.Core.Path.{_≡_};
-ghost use Prim.Native.Nat.{ℕ, _≤_, _<_, _^_};
+ghost use Prim.Native.Nat.{ℕ, _≤_, _<_, _^_, min};
 ghost use mathlib.Core.List.{_∷_};
 ghost use lib.ListN.{length, getD};
 ghost use lib.IntN.{natAbs};
@@ -26,6 +26,12 @@ fn all_opposite(positions: &[i64], a: i64, others: &[usize]) -> bool
     true
 }
 
+fn smaller(a: u64, b: u64) -> u64
+    ensures { λ r. ⌜ r ≡ min a b ⌝ }
+{
+    a.min(b)
+}
+
 // The smallest size of a position among the first and the others.
 fn smallest_size(positions: &[i64], first: usize, others: &[usize]) -> u64
     requires { ⌜ first < length (now positions) ⌝ ∗ ⌜ ((k : ℕ) → k < length (now others) → getD (now others) k 0 < length (now positions)) ⌝ }
@@ -33,7 +39,7 @@ fn smallest_size(positions: &[i64], first: usize, others: &[usize]) -> u64
 {
     let mut least = positions[first].unsigned_abs();
     for o in others {
-        least = least.min(positions[*o].unsigned_abs());
+        least = smaller(least, positions[*o].unsigned_abs());
     }
     least
 }

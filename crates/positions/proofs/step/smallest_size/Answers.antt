@@ -27,7 +27,7 @@ loop-o-again c =
     let g : SFits w64 (getD xs (getD os i 0) (pos 0)) = search needs in
     let more = smallest-more (placed xs) (c .args .first) os i (c .loop-o-test .taken) in
     let e : c .unsigned-abs .result ≡ natAbs (getD xs (getD os i 0) (pos 0)) = simp toZ-ofZ at (c .unsigned-abs .ensures .value) in
-    let m = c .min-least .ensures in
+    let m = c .smaller-least .ensures in
     let inv = c .loop-o .inv in
     (omega (arith, inv .0), omega (arith, inv .1))
 
