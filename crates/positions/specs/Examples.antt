@@ -2,10 +2,26 @@
 use mathlib.Core.List.{List, [], _∷_, map}
 use Prim.Native.Nat.{ℕ}
 use lib.IntN.{ℤ, pos, negsuc}
-use Rattle.positions.specs.Net.{Relation, net, placed}
+use Rattle.calendar.specs.declared.maturity.Maturity.{Maturity}
+use Rattle.calendar.specs.declared.maturity.Maturity.the-variants.{Quarter, Year}
+use Rattle.contracts.specs.Lines.{own}
+use Rattle.contracts.specs.Table.{Listed, Table}
+use Rattle.contracts.specs.declared.kind.Kind.the-variants.{Future}
+use Rattle.positions.specs.Net.{placed}
+use Rattle.positions.specs.Netted.{netted}
 
-abbrev pub yearAndQuarters : Relation
-yearAndQuarters = record { first = 0; others = 1 ∷ 2 ∷ 3 ∷ 4 ∷ [] }
+-- a future that is open on 1 January 2000
+abbrev pub opened : ℕ → Maturity → ℕ → Listed
+opened n x first = record { number = n; instrument = 1; maturity = x; first = first; registration = 1 }
+
+-- the year 2001 and its quarters, from 1 January, 1 April, 1 July and 1 October
+abbrev pub yearAndQuarters : Table
+yearAndQuarters = record {
+    date = 0;
+    horizon = 1;
+    instruments = record { number = 1; kind = Future } ∷ [];
+    contracts = opened 1 Year 366 ∷ opened 2 Quarter 366 ∷ opened 3 Quarter 456 ∷ opened 4 Quarter 547 ∷ opened 5 Quarter 639 ∷ [];
+  }
 
 abbrev pub heldBefore : List ℤ
 heldBefore = negsuc 4 ∷ pos 1 ∷ pos 2 ∷ pos 1 ∷ pos 3 ∷ []
@@ -14,5 +30,6 @@ heldBefore = negsuc 4 ∷ pos 1 ∷ pos 2 ∷ pos 1 ∷ pos 3 ∷ []
 abbrev pub leftAfter : List ℤ
 leftAfter = negsuc 3 ∷ pos 0 ∷ pos 1 ∷ pos 0 ∷ pos 2 ∷ []
 
-abbrev pub nettedPlaces : Relation → List ℤ → List ℕ → List ℤ
-nettedPlaces r xs is = map (net r (placed xs)) is
+-- the netted positions of the contracts at some places
+abbrev pub nettedPlaces : Table → List ℤ → List ℕ → List ℤ
+nettedPlaces t xs is = map (λ i. netted t (placed xs) (own i)) is
