@@ -2,6 +2,7 @@
 use mathlib.Core.Path.{_≡_, refl, sym, ap, subst, _∙_}
 use mathlib.Core.Bool.{Bool, true, false, cond, _&&_}
 use mathlib.Core.List.{List, [], _∷_, _++_, map}
+use mathlib.Core.Logic.{_⊎_, inl, inr}
 use Prim.Native.Nat.{ℕ, zero, suc, _+_, _-_, _<_, _≤_}
 use native.Mathlib.Omega.{arith}
 use lib.Dec.{eqb, lit≤}
@@ -10,25 +11,28 @@ use lib.IntN.{ℤ, pos, _+ℤ_, _*ℤ_, zero-*ℤ}
 use borrow.Author.Differences.{ints}
 use Rattle.std.specs.Iters.{counting}
 use Rattle.std.specs.shelf.Lists.{All}
-use Rattle.std.proofs.shelf.Tests.{false≢true}
+use Rattle.std.proofs.shelf.Tests.{cases-bool, eqb-true, cond-false, false≢true}
 use Rattle.days.specs.Months.{monthOf}
 use Rattle.calendar.specs.Hours.{deliveredIn}
 use Rattle.calendar.specs.Periods.{alike}
 use Rattle.calendar.specs.declared.maturity.Maturity.{Maturity}
 use Rattle.calendar.specs.declared.maturity.Maturity.the-variants.{SingleDay, Month, Quarter, Season, Year}
 use Rattle.contracts.specs.Table.{Listed, Table, numbers, blank, nth, size, covers}
-use Rattle.contracts.specs.Lines.{Line, day, rest, own, instrOf, hasLine, owns, timely, allTimely, lines, delivers}
+use Rattle.contracts.specs.Lines.{Line, day, rest, own, instrOf, isOwnLine, hasLine, owns, timely, allTimely, lines, delivers}
 use Rattle.contracts.specs.Views.{tableOf}
 use Rattle.contracts.specs.declared.table.ContractTable.{ContractTable}
-use Rattle.positions.specs.Law.{Hours-kept}
-use Rattle.positions.specs.Net.{Relation, Nearer}
+use Rattle.positions.specs.Law.{Hours-kept, heldInHour, deliveredInHour, sumWith, ownIn}
+use Rattle.positions.specs.Results.{Positions-are}
+use Rattle.positions.specs.Net.{Relation, Places, Nearer, No-arbitrage, placed}
 use Rattle.positions.specs.Netted.{position, relationsOver, years, seasons, quarters, relations, owned, netted}
 use Rattle.positions.specs.Sums.{sumOf, sumTo}
-use Rattle.positions.proofs.SumLaws.{sumOf-if, sumOf-append, sumOf-none}
+use Rattle.positions.proofs.SumLaws.{sumOf-same, sumOf-if, sumOf-append, sumOf-none}
 use Rattle.positions.proofs.Calendar.{alike-same}
-use Rattle.positions.proofs.Signs.{Proper, nearer-refl, netAll-nearer, none-remains}
+use Rattle.positions.proofs.Signs.{Proper, stays-away, nearer-refl, netAll-nearer, none-remains}
 use Rattle.positions.proofs.Conserving.{All-whole, netAll-conserves}
+use Rattle.positions.proofs.Count.{same, same-true, all-listed, once}
 use Rattle.positions.proofs.Good.{Rule, Good, good}
+use Rattle.positions.proofs.Taking.{OfTable}
 use Rattle.positions.proofs.Swap.{sumTo-below}
 use Rattle.positions.proofs.Whole.{conserves}
 use Rattle.positions.proofs.Parts.{bit, Sound, over-whole, over-proper, month-long}
@@ -97,6 +101,14 @@ owns-sum t f i (c ∷ cs) =
     let zero-on : cond (hasLine t c) (f (own i)) (pos 0) ≡ cond (hasLine t c) (f (own (i + 0))) (pos 0) = ap (λ j. cond (hasLine t c) (f (own j)) (pos 0)) (let e : i ≡ i + 0 = omega arith in e) in
     a ∙ ap (λ s. cond (hasLine t c) (f (own i)) (pos 0) +ℤ s) (r ∙ shift) ∙ ap (λ s. s +ℤ sumTo (λ m. cond (hasLine t (getD cs m blank)) (f (own (i + suc m))) (pos 0)) (length cs)) zero-on
     ∙ sym (sumTo-front (λ m. cond (hasLine t (getD (c ∷ cs) m blank)) (f (own (i + m))) (pos 0)) (length cs))
+
+-- lines with positions that are worked out from them
+sumWith-map : (f : Line → ℤ → ℤ) (g : Line → ℤ) (ls : List Line) → sumWith f ls (map g ls) ≡ sumOf (λ l. f l (g l)) ls
+sumWith-map f g [] = refl
+sumWith-map f g (l ∷ ls) = ap (λ s. f l (g l) +ℤ s) (sumWith-map f g ls)
+
+nearer-zero : (a : ℤ) → Nearer a (pos 0)
+nearer-zero a = record { above = λ h. (omega (arith, ints), h); below = λ h. (omega (arith, ints), h) }
 
 weighed : (b c : Bool) (v : ℤ) → cond b (cond c v (pos 0)) (pos 0) ≡ pos (bit (b && c)) *ℤ v
 weighed true true v = omega (arith, ints)
@@ -188,12 +200,63 @@ module _ (t : Table) (good : Good t) (q : ℕ → ℤ) where
   nearer (rest u m) = nearer-refl (position t q (rest u m))
   nearer (own i) = netAll-nearer (relations t) (owned t q) i
 
-  pub kept : (masks : ℕ → ℕ → ℕ) → Hours-kept masks t q
-  kept masks = record {
-    conserved = λ u d h late. by-hour u d late (deliveredIn (masks u) d h);
-    nearer = nearer;
-    none-left = none-remains (relations t) (owned t q) all-proper;
+  in-hour : (masks : ℕ → ℕ → ℕ) (u d h : ℕ) → t .date < d → deliveredInHour masks t (map (netted t q) (lines t)) u d h ≡ heldInHour masks t q u d h
+  in-hour masks u d h late = sumWith-map (λ l x. cond (deliveredIn (masks u) d h && (eqb (instrOf t l) u && delivers t l d)) x (pos 0)) (netted t q) (lines t) ∙ by-hour u d late (deliveredIn (masks u) d h)
+
+  each-nearer : (ls : List Line) (k : ℕ) → Nearer (placed (map (position t q) ls) k) (placed (map (netted t q) ls) k)
+  each-nearer [] k = nearer-refl (pos 0)
+  each-nearer (l ∷ ls) zero = nearer l
+  each-nearer (l ∷ ls) (suc k) = each-nearer ls k
+
+  own-same : (g : Line → ℤ) (i : ℕ) (l : Line) → cond (isOwnLine i l) (g l) (pos 0) ≡ cond (same (own i) l) (g (own i)) (pos 0)
+  own-same g i (day u e) = refl
+  own-same g i (rest u m) = refl
+  own-same g i (own j) = by (cases-bool (eqb j i))
+    where
+      by : (eqb j i ≡ true) ⊎ (eqb j i ≡ false) → cond (eqb j i) (g (own j)) (pos 0) ≡ cond (eqb j i) (g (own i)) (pos 0)
+      by (inl e) = ap (λ x. cond (eqb j i) (g (own x)) (pos 0)) (eqb-true j i e)
+      by (inr e) = cond-false (eqb j i) (g (own j)) (pos 0) e ∙ sym (cond-false (eqb j i) (g (own i)) (pos 0) e)
+
+  module _ (v : ℤ) (i : ℕ) where
+    abbrev mine : Line → ℤ
+    mine l = cond (same (own i) l) v (pos 0)
+
+    find-own : (ls : List Line) → All (OfTable t good) ls → OfTable t good (own i) ⊎ (sumOf mine ls ≡ pos 0)
+    find-own [] a = inr refl
+    find-own (l ∷ ls) a = elim (cases-bool (same (own i) l)) [
+      | inl e ↦ inl (subst (OfTable t good) (same-true (own i) l e) (a .0))
+      | inr e ↦ elim (find-own ls (a .1)) [
+        | inl o ↦ inl o
+        | inr z ↦ inr (let n = cond-false (same (own i) l) v (pos 0) e in omega (arith, ints))
+      ]
+    ]
+
+    -- what is not listed is found with no position
+    mine-nearer : Nearer v (sumOf mine (lines t))
+    mine-nearer = elim (find-own (lines t) (all-listed t good)) [
+      | inl o ↦ subst (Nearer v) (sym (once t good v (own i) o)) (nearer-refl v)
+      | inr z ↦ subst (Nearer v) (sym z) (nearer-zero v)
+    ]
+
+  own-nearer : (g : Line → ℤ) (i : ℕ) → Nearer (g (own i)) (ownIn t (map g (lines t)) i)
+  own-nearer g i =
+      let found = sumWith-map (λ l x. cond (isOwnLine i l) x (pos 0)) g (lines t) in
+      let shared = sumOf-same (λ l. cond (isOwnLine i l) (g l) (pos 0)) (mine (g (own i)) i) (lines t) (own-same g i) in
+      subst (Nearer (g (own i))) (sym (found ∙ shared)) (mine-nearer (g (own i)) i)
+
+  still-none : (rs : List Relation) (p r : Places) → ((i : ℕ) → Nearer (p i) (r i)) → No-arbitrage rs p → No-arbitrage rs r
+  still-none [] p r n a = tt
+  still-none (x ∷ rs) p r n a = (stays-away x p r n (a .0), still-none rs p r n (a .1))
+
+  left-none : No-arbitrage (relations t) (ownIn t (map (netted t q) (lines t)))
+  left-none = still-none (relations t) _ _ (own-nearer (netted t q)) (none-remains (relations t) (owned t q) all-proper)
+
+  pub kept : (masks : ℕ → ℕ → ℕ) (before after : List ℤ) → Positions-are t q before after → Hours-kept masks t q before after
+  kept masks before after e = record {
+    conserved = λ u d h late. ap (λ (xs : List ℤ). deliveredInHour masks t xs u d h) (e .netted-down) ∙ in-hour masks u d h late;
+    nearer = λ k. subst (λ (xs : List ℤ). Nearer (placed xs k) (placed after k)) (sym (e .broken-down)) (subst (λ (xs : List ℤ). Nearer (placed (map (position t q) (lines t)) k) (placed xs k)) (sym (e .netted-down)) (each-nearer (lines t) k));
+    none-left = subst (λ (xs : List ℤ). No-arbitrage (relations t) (ownIn t xs)) (sym (e .netted-down)) left-none;
   }
 
-pub hours-kept : {P : Type 0} (s : ContractTable P) (masks : ℕ → ℕ → ℕ) (q : ℕ → ℤ) → Hours-kept masks (tableOf s) q
-hours-kept s masks q = kept (tableOf s) (good s) q masks
+pub hours-kept : {P : Type 0} (s : ContractTable P) (masks : ℕ → ℕ → ℕ) (q : ℕ → ℤ) (before after : List ℤ) → Positions-are (tableOf s) q before after → Hours-kept masks (tableOf s) q before after
+hours-kept s masks q before after e = kept (tableOf s) (good s) q masks before after e

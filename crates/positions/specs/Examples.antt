@@ -17,11 +17,11 @@ opened n x first = record { number = n; instrument = 1; maturity = x; first = fi
 -- the year 2001 and its quarters, from 1 January, 1 April, 1 July and 1 October
 abbrev pub yearAndQuarters : Table
 yearAndQuarters = record {
-    date = 0;
-    horizon = 1;
-    instruments = record { number = 1; kind = Future } ∷ [];
-    contracts = opened 1 Year 366 ∷ opened 2 Quarter 366 ∷ opened 3 Quarter 456 ∷ opened 4 Quarter 547 ∷ opened 5 Quarter 639 ∷ [];
-  }
+  date = 0;
+  horizon = 1;
+  instruments = record { number = 1; kind = Future } ∷ [];
+  contracts = opened 1 Year 366 ∷ opened 2 Quarter 366 ∷ opened 3 Quarter 456 ∷ opened 4 Quarter 547 ∷ opened 5 Quarter 639 ∷ [];
+}
 
 abbrev pub heldBefore : List ℤ
 heldBefore = negsuc 4 ∷ pos 1 ∷ pos 2 ∷ pos 1 ∷ pos 3 ∷ []

@@ -33,7 +33,7 @@ pub fn positions_of<P: Profile + Drop>(
     quantities: &[i32],
 ) -> Result<Positions, AllocError>
     ensures value { λ r. ⌜ made r (λ p. Positions-are (tableOf (now (table .entry))) (placed (now (quantities .entry))) (vec-items (p .before)) (vec-items (p .netted))) ⌝ }
-    ensures law { λ _. ⌜ Hours-kept (maskIn (P·Profile .mask) (vec-items (now (table .entry) .instruments))) (tableOf (now (table .entry))) (placed (now (quantities .entry))) ⌝ }
+    ensures law { λ r. ⌜ made r (λ p. Hours-kept (maskIn (P·Profile .mask) (vec-items (now (table .entry) .instruments))) (tableOf (now (table .entry))) (placed (now (quantities .entry))) (vec-items (p .before)) (vec-items (p .netted))) ⌝ }
 {
     let lines = table.lines(heap)?;
     let mut own = own_positions(heap, table, quantities)?;
