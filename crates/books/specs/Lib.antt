@@ -1,0 +1,4 @@
+pub mod Journal
+pub mod State
+pub mod Limits
+pub mod Answers
