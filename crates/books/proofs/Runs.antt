@@ -5,11 +5,14 @@ use Prim.Native.Nat.{ℕ, suc, _+_, _<_, _≤_}
 use native.Mathlib.Omega.{arith}
 use lib.ListN.{length, getD, take}
 use Rattle.std.specs.declared.result.Result.{Result}
+use Rattle.std.specs.declared.result.Result.the-variants.{Ok, Err}
 use Rattle.std.proofs.shelf.Lists.{take-more, take-all}
 use Rattle.terms.specs.declared.refusal.Refusal.{Refusal}
 use Rattle.books.specs.declared.entry.Call.{Call}
+use Rattle.books.specs.declared.entry.Call.the-variants.{Enter, Cancel, Transfer, LimitMember, LimitAgents}
+use Rattle.books.specs.declared.entry.Entry.{Entry}
 use Rattle.books.specs.State.{State}
-use Rattle.books.specs.Answers.{answer, after, answers, run}
+use Rattle.books.specs.Answers.{answer, after, answers, run, booked, bookedAll, Opened-alike}
 
 answers-long : (s : State) (cs : List Call) → length (answers s cs) ≡ length cs
 answers-long s [] = refl
@@ -47,3 +50,36 @@ driven-more s t t′ cs rs rs′ i d r h so is then more =
 -- all calls
 pub driven-all : (s t : State) (cs : List Call) (rs : List (Result ℕ Refusal)) (i : ℕ) → length cs ≤ i → Driven s t cs rs i → (rs ≡ answers s cs) × (t ≡ run s cs rs)
 driven-all s t cs rs i h so = (so .answered ∙ ap (answers s) (take-all i cs h), so .left ∙ ap (λ (x : List Call). run s x rs) (take-all i cs h))
+
+-- ---- what a run keeps
+alike-refl : (s : State) → Opened-alike s s
+alike-refl s = record { date = refl; accounts = refl; listings = refl; opening = refl }
+
+alike-then : (s t u : State) → Opened-alike s t → Opened-alike t u → Opened-alike s u
+alike-then s t u a b = record { date = b .date ∙ a .date; accounts = b .accounts ∙ a .accounts; listings = b .listings ∙ a .listings; opening = b .opening ∙ a .opening }
+
+after-alike : (s : State) (c : Call) (r : Result ℕ Refusal) → Opened-alike s (after s c r)
+after-alike s c (Err e) = alike-refl s
+after-alike s (Enter t) (Ok n) = record { date = refl; accounts = refl; listings = refl; opening = refl }
+after-alike s (Cancel k) (Ok n) = record { date = refl; accounts = refl; listings = refl; opening = refl }
+after-alike s (Transfer k a) (Ok n) = record { date = refl; accounts = refl; listings = refl; opening = refl }
+after-alike s (LimitMember c m) (Ok n) = record { date = refl; accounts = refl; listings = refl; opening = refl }
+after-alike s (LimitAgents c m) (Ok n) = record { date = refl; accounts = refl; listings = refl; opening = refl }
+
+after-booked : (s : State) (c : Call) (r : Result ℕ Refusal) → after s c r .journal ≡ booked (s .journal) c r
+after-booked s c (Err e) = refl
+after-booked s (Enter t) (Ok n) = refl
+after-booked s (Cancel k) (Ok n) = refl
+after-booked s (Transfer k a) (Ok n) = refl
+after-booked s (LimitMember c m) (Ok n) = refl
+after-booked s (LimitAgents c m) (Ok n) = refl
+
+pub run-alike : (s : State) (cs : List Call) (rs : List (Result ℕ Refusal)) → Opened-alike s (run s cs rs)
+run-alike s [] rs = alike-refl s
+run-alike s (c ∷ cs) [] = alike-refl s
+run-alike s (c ∷ cs) (r ∷ rs) = alike-then s (after s c r) _ (after-alike s c r) (run-alike (after s c r) cs rs)
+
+pub run-booked : (s : State) (cs : List Call) (rs : List (Result ℕ Refusal)) → run s cs rs .journal ≡ bookedAll (s .journal) cs rs
+run-booked s [] rs = refl
+run-booked s (c ∷ cs) [] = refl
+run-booked s (c ∷ cs) (r ∷ rs) = run-booked (after s c r) cs rs ∙ ap (λ (es : List Entry). bookedAll es cs rs) (after-booked s c r)

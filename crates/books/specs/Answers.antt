@@ -1,4 +1,5 @@
 -- Which answer comes to a call, and what the book is after it.
+use mathlib.Core.Path.{_≡_}
 use mathlib.Core.List.{List, [], _∷_, _++_}
 use mathlib.Core.Bool.{Bool, true, false, cond, not, _&&_, _||_}
 use Prim.Native.Nat.{ℕ, _+_, _-_}
@@ -135,15 +136,15 @@ entryOf s (LimitAgents c most) = 0
 -- the lowest refusal whose condition holds, or the entry's number
 abbrev pub answer : State → Call → Result ℕ Refusal
 answer s call =
-  cond (outOfRange call) (Err OutOfRange)
-  (cond (notInBook s call) (Err NotInBook)
-  (cond (registrationOver s call) (Err RegistrationOver)
-  (cond (journalFull s call) (Err JournalFull)
-  (cond (noStandingEntry s call) (Err NoStandingEntry)
-  (cond (ownAccount s call) (Err OwnAccount)
-  (cond (anyUnfit (taken s call) (changed s call)) (Err CellOutOfRange)
-  (cond (anyOver s (taken s call) (changed s call)) (Err OverLimit)
-  (Ok (entryOf s call)))))))))
+    cond (outOfRange call) (Err OutOfRange)
+    (cond (notInBook s call) (Err NotInBook)
+    (cond (registrationOver s call) (Err RegistrationOver)
+    (cond (journalFull s call) (Err JournalFull)
+    (cond (noStandingEntry s call) (Err NoStandingEntry)
+    (cond (ownAccount s call) (Err OwnAccount)
+    (cond (anyUnfit (taken s call) (changed s call)) (Err CellOutOfRange)
+    (cond (anyOver s (taken s call) (changed s call)) (Err OverLimit)
+    (Ok (entryOf s call)))))))))
 
 -- what a reader of a cell is answered
 abbrev pub shown : Holding → ℕ → ℕ → Result Cell Refusal
@@ -160,3 +161,25 @@ abbrev pub run : State → List Call → List (Result ℕ Refusal) → State
 run s [] rs = s
 run s (call ∷ calls) [] = s
 run s (call ∷ calls) (r ∷ rs) = run (after s call r) calls rs
+
+-- ---- what calls and answers alone tell
+-- the journal after a call, of the journal before it
+abbrev pub booked : List entries.Entry → Call → Result ℕ Refusal → List entries.Entry
+booked es call (Err e) = es
+booked es (Enter t) (Ok n) = es ++ entered t ∷ []
+booked es (Cancel k) (Ok n) = set es (k - 1) (cancelled (getD es (k - 1) blank))
+booked es (Transfer k a) (Ok n) = set es (k - 1) (moved a (getD es (k - 1) blank))
+booked es (LimitMember c most) (Ok n) = es
+booked es (LimitAgents c most) (Ok n) = es
+
+abbrev pub bookedAll : List entries.Entry → List Call → List (Result ℕ Refusal) → List entries.Entry
+bookedAll es [] rs = es
+bookedAll es (call ∷ calls) [] = es
+bookedAll es (call ∷ calls) (r ∷ rs) = bookedAll (booked es call r) calls rs
+
+-- calls change the journal and the limits alone
+pub record Opened-alike (s t : State) : Type 0 where
+  pub date : t .date ≡ s .date
+  pub accounts : t .accounts ≡ s .accounts
+  pub listings : t .listings ≡ s .listings
+  pub opening : t .opening ≡ s .opening

@@ -1,4 +1,4 @@
-use mathlib.Core.Path.{_≡_, refl, sym, ap, _∙_}
+use mathlib.Core.Path.{_≡_, refl, sym, ap, subst, _∙_}
 use native.Mathlib.Omega.{arith}
 use lib.ListN.{length}
 use Rattle.std.proofs.shelf.Lists.{length-push}
@@ -6,7 +6,9 @@ use Rattle.std.specs.Of.Vec.{vec-items}
 use Rattle.books.specs.declared.entry.Call.{Call}
 use Rattle.books.specs.declared.entry.Call.the-variants.{Enter}
 use Rattle.books.specs.Journal.{blank}
-use Rattle.books.proofs.Runs.{driven-none, driven-more, driven-all}
+use Rattle.books.specs.Answers.{Opened-alike}
+use Rattle.books.specs.State.{State}
+use Rattle.books.proofs.Runs.{run-alike, run-booked, driven-none, driven-more, driven-all}
 use Rattle.books.proofs.driving.drive.Needs as need
 
 pub loop-i-holds : need.loop-i-holds
@@ -33,4 +35,12 @@ pub returns : need.returns
 returns g c =
     let inv = c .loop-i .inv in
     let all = driven-all _ _ (c .args .calls .now) _ (c .loop-i .i) (c .loop-i-test .left) (inv .0) in
-    record { answers = all .0; state = all .1; follows = inv .1; lent = inv .2 }
+    let s = g .B·Book .state (c .args .book .now) in
+    record {
+      answers = all .0;
+      state = all .1;
+      journal = ap (λ (t : State). t .journal) (all .1) ∙ run-booked s (c .args .calls .now) (vec-items (c .loop-i .answers));
+      kept = subst (Opened-alike s) (sym (all .1)) (run-alike s (c .args .calls .now) (vec-items (c .loop-i .answers)));
+      follows = inv .1;
+      lent = inv .2;
+    }
