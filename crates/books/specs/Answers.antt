@@ -1,14 +1,13 @@
 -- Which answer comes to a call, and what the book is after it.
 use mathlib.Core.Path.{_≡_}
 use mathlib.Core.List.{List, [], _∷_, _++_}
-use mathlib.Core.Bool.{Bool, true, false, cond, not, _&&_, _||_}
+use mathlib.Core.Bool.{Bool, false, cond, not, _&&_, _||_}
 use Prim.Native.Nat.{ℕ, _+_, _-_}
 use lib.Dec.{eqb, ltb, leb}
 use lib.IntN.{ℤ, pos, _+ℤ_, natAbs}
 use lib.ListN.{length, getD, set}
 use Rattle.std.specs.declared.result.Result.{Result}
 use Rattle.std.specs.declared.result.Result.the-variants.{Ok, Err}
-use Rattle.days.specs.declared.day.Day.{Day}
 use Rattle.terms.specs.Ranges.{holdsIn}
 use Rattle.terms.specs.declared.bounds.Bounds.{Bounds}
 use Rattle.terms.specs.declared.bounds.Bounds.the-variants.{Price, Position, TradedValue, Account, Contract, Entry, ConcentrationLimit}
@@ -19,10 +18,9 @@ use Rattle.books.specs.declared.entry.Call.the-variants.{Enter, Cancel, Transf
 use Rattle.books.specs.declared.entry.Cell.{Cell}
 use Rattle.books.specs.declared.entry.Entry as entries
 use Rattle.books.specs.declared.entry.Listing.{Listing}
-use Rattle.books.specs.declared.entry.Trade.{Trade}
 use Rattle.books.specs.Journal.{blank, entered, cancelled, moved}
 use Rattle.books.specs.Limits.{anyExceeds, limited}
-use Rattle.books.specs.State.{Scope, member, agents, Layer, State, Holding, isAccount, isListing, listingPlace, cellOf}
+use Rattle.books.specs.State.{member, agents, Layer, State, Holding, isAccount, isListing, listingPlace, cellOf}
 
 -- ---- after a call
 abbrev pub withJournal : State → List entries.Entry → State

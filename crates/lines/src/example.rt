@@ -13,7 +13,7 @@ use terms::Refusal;
 
 // A contract of the example, by the numbers of its days, and what the account holds of it.
 #[derive(Clone, Copy)]
-pub struct Holding {
+pub(crate) struct Holding {
     maturity: Maturity,
     first: i64,
     registration: i64,
@@ -21,7 +21,7 @@ pub struct Holding {
 }
 
 // April 2026 has gone into delivery: one week lies in it, another runs across its end. A year with its quarters is open.
-pub fn holdings() -> [Holding; 8] {
+pub(crate) fn holdings() -> [Holding; 8] {
     [
         held(Maturity::Month, 20_260_401, 20_260_330, 10),
         held(Maturity::Week, 20_260_420, 20_260_417, 2),
@@ -44,7 +44,10 @@ fn held(maturity: Maturity, first: i64, registration: i64, quantity: i32) -> Hol
 }
 
 // The table of 16 April 2026, of base load, with single days up to the 19th.
-pub fn example_table(heap: Global, holdings: &[Holding]) -> Result<ContractTable<Load>, Failure> {
+pub(crate) fn example_table(
+    heap: Global,
+    holdings: &[Holding],
+) -> Result<ContractTable<Load>, Failure> {
     let date = Day::from_number(20_260_416)?;
     let horizon = Day::from_number(20_260_419)?;
     let mut table = ContractTable::new(heap, date, horizon)?;
@@ -75,7 +78,7 @@ fn terms_of(number: u16, holding: Holding) -> Result<Terms, Refusal> {
     })
 }
 
-pub fn quantities_of(holdings: &[Holding; 8]) -> [i32; 8] {
+pub(crate) fn quantities_of(holdings: &[Holding; 8]) -> [i32; 8] {
     let mut quantities = [0; 8];
     for i in 0..8 {
         quantities[i] = holdings[i].quantity;

@@ -2,6 +2,7 @@
 // that has gone into delivery, with a week across its end, and a year netted against its quarters.
 mod example;
 mod report;
+mod row;
 
 use calendar::LoadProfile;
 use example::example_table;

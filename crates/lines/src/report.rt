@@ -1,95 +1,53 @@
+ghost use mathlib.Core.Path.{_≡_};
+ghost use mathlib.Core.List.{_∷_, [], _++_};
+ghost use Rattle.std.specs.Of.String.{string-bytes};
+ghost use Rattle.std.specs.Of.Vec.{vec-items};
+ghost use Rattle.std.specs.Vec.{made};
+ghost use Rattle.calendar.specs.Loads.{loadMask};
+ghost use Rattle.contracts.specs.Hours.{maskIn};
+ghost use Rattle.contracts.specs.Views.{tableOf};
+ghost use Rattle.positions.specs.Net.{placed};
+ghost use Rattle.lines.specs.Rows.{written, reportOf};
+use crate::row::Row;
+use crate::row::RowDisplay;
+use crate::row::row_of;
 use calendar::Load;
-use calendar::LoadProfile;
 use contracts::ContractTable;
-use contracts::Line;
 use positions::Positions;
 use std::alloc::AllocError;
 use std::alloc::Global;
 
-// A text line for each line of the table: its kind (`day`, `rest` of a month, or an open contract's maturity), its
-// instrument, its first day, its delivery hours, its position before netting and after it.
+// A text line for each line of the table: its label, its instrument, its first day, its delivery hours, its position
+// before netting and after it.
 pub fn report_of(
     heap: Global,
     table: &ContractTable<Load>,
     positions: &Positions,
-) -> Result<String, AllocError> {
+) -> Result<String, AllocError>
+    ensures { λ r. ⌜ made r (λ t. string-bytes t ≡ reportOf (maskIn loadMask (vec-items (now (table .entry) .instruments))) (tableOf (now (table .entry))) (vec-items (now (positions .entry) .before)) (vec-items (now (positions .entry) .netted))) ⌝ }
+{
     let lines = table.lines(heap)?;
     let mut text = String::new(heap);
     for (i, line) in lines.iter().enumerate() {
-        let name = name_of(table, *line);
-        let hours = table.hours_of_line(*line);
         let before = at(&positions.before, i);
         let netted = at(&positions.netted, i);
-        add_row(&mut text, name, hours, before, netted)?;
+        add_row(&mut text, row_of(table, *line, before, netted))?;
     }
     Ok(text)
 }
 
-// What a line is called.
-#[derive(Clone, Copy)]
-enum Name {
-    Day(u8, u32),
-    Rest(u8, u32),
-    Contract(u8, u8, u32),
-}
-
-fn name_of(table: &ContractTable<Load>, line: Line) -> Name {
-    match line {
-        Line::Day(instrument, day) => Name::Day(instrument, day.to_number()),
-        Line::Rest(instrument, next) => Name::Rest(instrument, rest_start(table, next)),
-        Line::Own(place) => match table.contract_at(place) {
-            Some(contract) => Name::Contract(
-                contract.terms.maturity.letter(),
-                contract.terms.instrument,
-                contract.terms.first.to_number(),
-            ),
-            None => Name::Contract(b'?', 0, 0),
-        },
-    }
-}
-
-// The first day of this month or the next.
-fn rest_start(table: &ContractTable<Load>, next: bool) -> u32 {
-    let this = table.date.first_of_month();
-    if !next {
-        return this.to_number();
-    }
-    match table.date.last_of_month_after(0) {
-        Some(last) => match last.plus(1) {
-            Some(day) => day.to_number(),
-            None => 0,
-        },
-        None => 0,
-    }
-}
-
-fn at(positions: &[i64], i: usize) -> i64 {
+// The position at a place; past the end of the list there is none.
+fn at(positions: &[i64], i: usize) -> i64
+    ensures { λ r. ⌜ r ≡ placed (now (positions .entry)) i ⌝ }
+{
     if i < positions.len() { positions[i] } else { 0 }
 }
 
-fn add_row(
-    text: &mut String,
-    name: Name,
-    hours: u32,
-    before: i64,
-    netted: i64,
-) -> Result<(), AllocError> {
-    let added = match name {
-        Name::Day(instrument, first) => {
-            writeln!(text, "day {instrument} {first} {hours} {before} {netted}")
-        }
-        Name::Rest(instrument, first) => {
-            writeln!(text, "rest {instrument} {first} {hours} {before} {netted}")
-        }
-        Name::Contract(letter, instrument, first) => {
-            let letter = char::from(letter);
-            writeln!(
-                text,
-                "{letter} {instrument} {first} {hours} {before} {netted}"
-            )
-        }
-    };
-    match added {
+// Adds the line for one row.
+fn add_row(text: &mut String, row: Row) -> Result<(), AllocError>
+    ensures { λ r. ⌜ made r (λ _. string-bytes (now (text .exit)) ≡ string-bytes (now (text .entry)) ++ (written row ++ 10 ∷ [])) ⌝ }
+{
+    match writeln!(text, "{row}") {
         Ok(()) => Ok(()),
         Err(_) => Err(AllocError),
     }
