@@ -3,7 +3,7 @@ use mathlib.Core.Path.{_≡_, refl, sym, ap, subst, _∙_}
 use mathlib.Core.Bool.{Bool, true, false, cond, _&&_}
 use mathlib.Core.List.{List, [], _∷_, _++_, map}
 use mathlib.Core.Logic.{_⊎_, inl, inr}
-use Prim.Native.Nat.{ℕ, zero, suc, _+_, _-_, _<_, _≤_}
+use Prim.Native.Nat.{ℕ, zero, suc, _+_, _-_, _*_, _<_, _≤_}
 use native.Mathlib.Omega.{arith}
 use lib.Dec.{eqb, lit≤}
 use lib.ListN.{getD, length}
@@ -16,7 +16,7 @@ use Rattle.days.specs.Months.{monthOf}
 use Rattle.calendar.specs.Hours.{deliveredIn}
 use Rattle.calendar.specs.Periods.{alike}
 use Rattle.calendar.specs.declared.maturity.Maturity.{Maturity}
-use Rattle.calendar.specs.declared.maturity.Maturity.the-variants.{SingleDay, Month, Quarter, Season, Year}
+use Rattle.calendar.specs.declared.maturity.Maturity.the-variants.{SingleDay}
 use Rattle.contracts.specs.Table.{Listed, Table, numbers, blank, nth, size, covers}
 use Rattle.contracts.specs.Lines.{Line, day, rest, own, instrOf, isOwnLine, hasLine, owns, timely, allTimely, lines, delivers}
 use Rattle.contracts.specs.Views.{tableOf}
@@ -24,14 +24,14 @@ use Rattle.contracts.specs.declared.table.ContractTable.{ContractTable}
 use Rattle.positions.specs.Law.{Hours-kept, heldInHour, deliveredInHour, sumWith, ownIn}
 use Rattle.positions.specs.Results.{Positions-are}
 use Rattle.positions.specs.Net.{Relation, Places, Nearer, No-arbitrage, placed}
-use Rattle.positions.specs.Netted.{position, relationsOver, years, seasons, quarters, relations, owned, netted}
+use Rattle.positions.specs.Netted.{Tier, position, relationsOver, years, seasons, quarters, relations, owned, netted}
 use Rattle.positions.specs.Sums.{sumOf, sumTo}
 use Rattle.positions.proofs.SumLaws.{sumOf-same, sumOf-if, sumOf-append, sumOf-none}
 use Rattle.positions.proofs.Calendar.{alike-same}
 use Rattle.positions.proofs.Signs.{Proper, stays-away, nearer-refl, netAll-nearer, none-remains}
 use Rattle.positions.proofs.Conserving.{All-whole, netAll-conserves}
 use Rattle.positions.proofs.Count.{same, same-true, all-listed, once}
-use Rattle.positions.proofs.Good.{Rule, Good, good}
+use Rattle.positions.proofs.Good.{Months-long, Rule, Good, good}
 use Rattle.positions.proofs.Taking.{OfTable}
 use Rattle.positions.proofs.Swap.{sumTo-below}
 use Rattle.positions.proofs.Whole.{conserves}
@@ -42,38 +42,26 @@ module _ (t : Table) (good : Good t) where
   rule : (i : ℕ) (x : Maturity) → i < size t → nth t i .maturity ≡ x → Rule t (nth t i) x
   rule i x h e = subst (Rule t (nth t i)) e (good .dated i h)
 
-  pub sound-years : Sound t years
-  sound-years = record {
-    some = (3, refl);
-    positive = lit≤ tt;
-    first-long = λ i h e. rule i Year h (alike-same (nth t i .maturity) Year e) .1;
-    part-long = λ i h e. rule i Quarter h (alike-same (nth t i .maturity) Quarter e) .1;
-    first-line = λ y e. ap (λ z. alike z SingleDay) (alike-same y Year e);
-    part-line = λ y e. ap (λ z. alike z SingleDay) (alike-same y Quarter e);
-    differ = λ y e f. false≢true (sym (ap (λ z. alike z Quarter) (alike-same y Year e)) ∙ f);
+  -- what the three tiers share: maturities that are alike are the same
+  sound : (x : Tier) → (n : ℕ) × (x .count ≡ suc n) → 0 < x .months → alike (x .whole) SingleDay ≡ false → alike (x .part) SingleDay ≡ false → alike (x .whole) (x .part) ≡ false → ((i : ℕ) → i < size t → Rule t (nth t i) (x .whole) → Months-long (nth t i) (x .months * x .count)) → ((i : ℕ) → i < size t → Rule t (nth t i) (x .part) → Months-long (nth t i) (x .months)) → Sound t x
+  sound x some positive whole-line part-line apart first-long part-long = record {
+    some = some;
+    positive = positive;
+    first-long = λ i h e. first-long i h (rule i (x .whole) h (alike-same (nth t i .maturity) (x .whole) e));
+    part-long = λ i h e. part-long i h (rule i (x .part) h (alike-same (nth t i .maturity) (x .part) e));
+    first-line = λ y e. ap (λ z. alike z SingleDay) (alike-same y (x .whole) e) ∙ whole-line;
+    part-line = λ y e. ap (λ z. alike z SingleDay) (alike-same y (x .part) e) ∙ part-line;
+    differ = λ y e f. false≢true (sym (ap (λ z. alike z (x .part)) (alike-same y (x .whole) e) ∙ apart) ∙ f);
   }
+
+  pub sound-years : Sound t years
+  sound-years = sound years (3, refl) (lit≤ tt) refl refl refl (λ i h r. r .1) (λ i h r. r .1)
 
   pub sound-seasons : Sound t seasons
-  sound-seasons = record {
-    some = (1, refl);
-    positive = lit≤ tt;
-    first-long = λ i h e. rule i Season h (alike-same (nth t i .maturity) Season e) .1;
-    part-long = λ i h e. rule i Quarter h (alike-same (nth t i .maturity) Quarter e) .1;
-    first-line = λ y e. ap (λ z. alike z SingleDay) (alike-same y Season e);
-    part-line = λ y e. ap (λ z. alike z SingleDay) (alike-same y Quarter e);
-    differ = λ y e f. false≢true (sym (ap (λ z. alike z Quarter) (alike-same y Season e)) ∙ f);
-  }
+  sound-seasons = sound seasons (1, refl) (lit≤ tt) refl refl refl (λ i h r. r .1) (λ i h r. r .1)
 
   pub sound-quarters : Sound t quarters
-  sound-quarters = record {
-    some = (2, refl);
-    positive = lit≤ tt;
-    first-long = λ i h e. rule i Quarter h (alike-same (nth t i .maturity) Quarter e) .1;
-    part-long = λ i h e. month-long t (nth t i) (rule i Month h (alike-same (nth t i .maturity) Month e));
-    first-line = λ y e. ap (λ z. alike z SingleDay) (alike-same y Quarter e);
-    part-line = λ y e. ap (λ z. alike z SingleDay) (alike-same y Month e);
-    differ = λ y e f. false≢true (sym (ap (λ z. alike z Month) (alike-same y Quarter e)) ∙ f);
-  }
+  sound-quarters = sound quarters (2, refl) (lit≤ tt) refl refl refl (λ i h r. r .1) (λ i h r. month-long t (nth t i) r)
 
 whole-append : (n : ℕ) (w : ℕ → ℕ) (xs ys : List Relation) → All-whole n w xs → All-whole n w ys → All-whole n w (xs ++ ys)
 whole-append n w [] ys a b = b
