@@ -1,4 +1,6 @@
 // Examples that openings, books and limits are run on.
+#![tactic(auto)]
+
 #[cfg(test)]
 mod of_books;
 #[cfg(test)]

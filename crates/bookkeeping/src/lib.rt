@@ -1,4 +1,6 @@
 // Books: what accounts have of contracts, and the calls that change it.
+#![tactic(auto)]
+
 mod book;
 mod driving;
 mod entry;

@@ -1,4 +1,6 @@
 // Maturities and their periods, load profiles, and delivery hours.
+#![tactic(auto)]
+
 mod hours;
 mod load;
 mod maturity;

@@ -1,4 +1,6 @@
 // Instruments and contracts, the rules that every table of them keeps, and the lines of a table.
+#![tactic(auto)]
+
 mod adding;
 mod contract;
 mod hours;

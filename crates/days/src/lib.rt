@@ -1,4 +1,6 @@
 // Days, months and weekdays from 2000 to 2099.
+#![tactic(auto)]
+
 mod day;
 mod days;
 mod months;

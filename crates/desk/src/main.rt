@@ -1,5 +1,7 @@
 // Drives an example list of calls through a table book under an agent limit under a member limit, and prints each call
 // with its answer, and then the cells that are not all zero.
+#![tactic(auto)]
+
 mod cells;
 mod example;
 mod lines;

@@ -1,4 +1,6 @@
 // The margin file, read entire or refused by number and line.
+#![tactic(auto)]
+
 mod adding;
 mod adding_calls;
 mod adding_contracts;

@@ -1,4 +1,6 @@
 // From the fields of a line of a margin file to the row that they say, or the refusal that the form is wrong.
+#![tactic(auto)]
+
 mod call;
 mod narrow;
 mod plain;

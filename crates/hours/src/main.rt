@@ -1,5 +1,7 @@
 // For each line `PROFILE MATURITY YYYYMMDD` of the input: first day, last day, count of days, count of delivery hours,
 // or the number of the refusal.
+#![tactic(auto)]
+
 mod answer;
 mod report;
 

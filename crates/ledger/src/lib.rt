@@ -1,4 +1,6 @@
 // The table book: it holds every cell, kept up to date at each call, over a journal that it is lent.
+#![tactic(auto)]
+
 mod asking;
 mod book;
 mod changing;

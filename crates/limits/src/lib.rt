@@ -1,4 +1,6 @@
 // Concentration limits: layers over any book.
+#![tactic(auto)]
+
 mod driving;
 mod layer;
 mod lookup;

@@ -1,4 +1,6 @@
 // Examples that tables, lines and positions are run on.
+#![tactic(auto)]
+
 #[cfg(test)]
 mod of_lines;
 #[cfg(test)]

@@ -1,5 +1,7 @@
 // Prints the lines of an example table with their hours and an account's positions, before netting and after it: a month
 // that has gone into delivery, with a week across its end, and a year netted against its quarters.
+#![tactic(auto)]
+
 mod example;
 mod report;
 mod row;

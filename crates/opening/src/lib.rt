@@ -1,4 +1,6 @@
 // What a book opens with: accounts, opening positions and concentration limits, over the contracts of a table.
+#![tactic(auto)]
+
 mod adding;
 mod finding;
 mod opening;

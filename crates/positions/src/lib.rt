@@ -1,4 +1,6 @@
 // From what an account holds of each contract to its position on every line, before netting and after it.
+#![tactic(auto)]
+
 mod breakdown;
 mod example;
 mod netting;

@@ -1,3 +1,5 @@
 // Examples that sessions are run on.
+#![tactic(auto)]
+
 #[cfg(test)]
 mod of_files;

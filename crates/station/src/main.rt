@@ -1,4 +1,6 @@
 // Reads a margin file on the input and prints what the station says of it.
+#![tactic(auto)]
+
 use session::printed;
 use std::io;
 use std::io::Read;

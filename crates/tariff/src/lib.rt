@@ -1,4 +1,6 @@
 // The risk tariff of a contract table: prices, a risk line for every line of the table, price ranges and credits.
+#![tactic(auto)]
+
 mod adding;
 mod completing;
 mod draft;

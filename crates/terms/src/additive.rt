@@ -31,8 +31,8 @@ pub trait Additive: Copy {
 
 // The sum of all of them.
 pub fn total<T: Additive>(items: &[T]) -> T
-    requires { sizes size items.now < 2 ^ 63 }
-    ensures { result ≡ added none plus items.now }
+    requires { sizes T.size items.now < 2 ^ 63 }
+    ensures { result ≡ added T.none T.plus items.now }
 {
     let mut sum = T::zero();
     for x in items {
@@ -43,8 +43,8 @@ pub fn total<T: Additive>(items: &[T]) -> T
 
 // The first without the second.
 pub fn less<T: Additive>(a: T, b: T) -> T
-    requires { size a + size b < 2 ^ 63 }
-    ensures { result ≡ plus a (minus b) }
+    requires { T.size a + T.size b < 2 ^ 63 }
+    ensures { result ≡ T.plus a (T.minus b) }
 {
     a.sum(b.opposite())
 }

@@ -1,4 +1,6 @@
 // What every part of the station shares: why something is refused, the ranges of numbers, and sums.
+#![tactic(auto)]
+
 mod additive;
 mod amounts;
 mod bounds;

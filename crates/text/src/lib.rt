@@ -1,4 +1,6 @@
 // Lines, fields and numbers of a text of bytes, and a cursor over the fields of a line.
+#![tactic(auto)]
+
 mod cursor;
 mod field;
 mod line;

@@ -1,4 +1,6 @@
 // Examples that the crates below are run on.
+#![tactic(auto)]
+
 #[cfg(test)]
 mod of_calendar;
 #[cfg(test)]

@@ -4,4 +4,4 @@ use Rattle.days.proofs.months.month_of.Goals as goal
 
 pub returns : goal.returns
 unfolding month_of
-returns c = ap (λ k. 48 * (c.args.day / 1461) + k) c.month-in-cycle.ensures.value
+returns c = ap (λ k. 48 * (c.args.day / 1461) + k) c.month_in_cycle.ensures.value

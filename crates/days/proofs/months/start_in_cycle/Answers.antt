@@ -7,7 +7,7 @@ loop-i-init c = (sym start_none, omega arith)
 
 pub loop-i-preserved : goal.loop-i-preserved
 loop-i-preserved c =
-    let l = c.length-of-day.ensures.value in
-    let b = c.length-of-day.ensures.bound in
+    let l = c.length_of-day.ensures.value in
+    let b = c.length_of-day.ensures.bound in
     let s = start_more c.loop-i.i (omega arith) in
     (omega arith, omega arith)

@@ -5,13 +5,13 @@ use Rattle.text.specs.Numbers.{largest}
 use Rattle.text.proofs.Numbers.{left, digit_more, no_digit}
 use Rattle.text.proofs.field.magnitude.Goals as goal
 
-pub returns-then-not-is-ascii-digit : goal.returns-then-not-is-ascii-digit
-returns-then-not-is-ascii-digit c =
-    no_digit c.args.ds.now _ _ c.loop-d-test.true (sym c.if-not-is-ascii-digit.ensures.value) ∙ c.loop-d.invariant.1
+pub returns-then-not-is_ascii_digit : goal.returns-then-not-is_ascii_digit
+returns-then-not-is_ascii_digit c =
+    no_digit c.args.ds.now _ _ c.loop-d-test.true (sym c.if-not-is_ascii_digit.ensures.value) ∙ c.loop-d.invariant.1
 
 pub loop-d-preserved : goal.loop-d-preserved
 loop-d-preserved c =
-    (omega arith, digit_more c.args.ds.now _ _ _ c.loop-d-test.true (sym c.if-not-is-ascii-digit.ensures.value) (omega arith) ∙ c.loop-d.invariant.1)
+    (omega arith, digit_more c.args.ds.now _ _ _ c.loop-d-test.true (sym c.if-not-is_ascii_digit.ensures.value) (omega arith) ∙ c.loop-d.invariant.1)
 
 pub returns : goal.returns
 returns c =

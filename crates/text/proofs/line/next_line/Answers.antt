@@ -5,13 +5,13 @@ use Rattle.text.proofs.Cuts.{line_more, line_ends}
 use Rattle.text.proofs.Spaces.{line_cut}
 use Rattle.text.proofs.line.next_line.Goals as goal
 
-pub returns-then-b-eq-LINE-END : goal.returns-then-b-eq-LINE-END
-returns-then-b-eq-LINE-END c =
-    let e = line_ends c.args.bytes.now _ c.loop-i-test.true c.if-b-eq-LINE-END.true ∙ c.loop-i.invariant in
+pub returns-then-b-eq-LINE_END : goal.returns-then-b-eq-LINE_END
+returns-then-b-eq-LINE_END c =
+    let e = line_ends c.args.bytes.now _ c.loop-i-test.true c.if-b-eq-LINE_END.true ∙ c.loop-i.invariant in
     record { value = e; law = line_cut c.args.bytes.now _ e }
 
 pub loop-i-preserved : goal.loop-i-preserved
-loop-i-preserved c = line_more c.args.bytes.now _ c.loop-i-test.true c.if-b-eq-LINE-END.false ∙ c.loop-i.invariant
+loop-i-preserved c = line_more c.args.bytes.now _ c.loop-i-test.true c.if-b-eq-LINE_END.false ∙ c.loop-i.invariant
 
 pub returns : goal.returns
 returns c =

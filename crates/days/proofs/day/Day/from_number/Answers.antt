@@ -11,7 +11,7 @@ returns-in-Ok c =
     let same = to_z-of_z w64 z c.ranges.number in
     let held = c.in-Ok.ensures in
     let n : c.in-Ok.n ≡ nat_abs z = subst (λ y. c.in-Ok.n ≡ nat_abs y) same held.1 in
-    let value = c.from-date.ensures ∙ sym (in_range z c.in-Ok.n (subst (FitsUnsignedBits 32) same held.0) n) in
+    let value = c.from_date.ensures ∙ sym (in_range z c.in-Ok.n (subst (FitsUnsignedBits 32) same held.0) n) in
     record { value = value; law = subst (Named z) (sym value) (named z) }
 
 pub returns-in-Err : goal.returns-in-Err

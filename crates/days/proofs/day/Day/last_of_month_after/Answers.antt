@@ -10,15 +10,15 @@ returns-then-months-month c =
     let v = c.month-month.ensures.value in
     sym (cond-false _ (Some (month_start (m + 1) - 1)) None (le-ltb _ 36525 (last_past m (omega arith))))
 
-pub overflow-sub-result : goal.overflow-sub-result
-overflow-sub-result c = let e = c.start-of.ensures in let l = last_within (c.month-month.result + c.args.months) (omega arith) in omega arith
+pub overflow_sub-result : goal.overflow_sub-result
+overflow_sub-result c = let e = c.start_of.ensures in let l = last_within (c.month-month.result + c.args.months) (omega arith) in omega arith
 
-pub invariant-of-result : goal.invariant-of-result
-invariant-of-result c = let e = c.start-of.ensures in let l = last_within (c.month-month.result + c.args.months) (omega arith) in (omega arith, tt)
+pub invariant_of-result : goal.invariant_of-result
+invariant_of-result c = let e = c.start_of.ensures in let l = last_within (c.month-month.result + c.args.months) (omega arith) in record { within = omega arith }
 
 pub returns : goal.returns
 returns c =
     let m : ℕ = month_of c.args.self.number + c.args.months in
     let v = c.month-month.ensures.value in
-    let e = c.start-of.ensures ∙ ap (λ k. month_start (k + c.args.months + 1)) v in
+    let e = c.start_of.ensures ∙ ap (λ k. month_start (k + c.args.months + 1)) v in
     ap (λ k. Some (k - 1)) e ∙ sym (cond-true _ (Some (month_start (m + 1) - 1)) None (lt-ltb _ 36525 (last_within m (omega arith)).1))

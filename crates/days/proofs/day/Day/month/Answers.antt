@@ -5,4 +5,4 @@ use Rattle.days.proofs.day.Day.month.Goals as goal
 pub returns : goal.returns
 returns c =
     let few = months_few c.args.self.number c.args.self.within in
-    record { value = c.month-of.ensures; bound = omega (arith, c.month-of.ensures); law = months_tile }
+    record { value = c.month_of.ensures; bound = omega (arith, c.month_of.ensures); law = months_tile }

@@ -7,7 +7,7 @@ number : (c : goal.After-from) → 10000 * (2000 + c.from-month.result / 12) + 1
 unfolding numbered
 number c =
     let m = c.from-month.ensures ∙ c.month.ensures.value in
-    let f = c.first-of-month-first.ensures.value in
+    let f = c.first_of_month-first.ensures.value in
     let d = c.from.ensures in
     omega arith
 

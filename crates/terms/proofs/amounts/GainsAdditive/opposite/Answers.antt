@@ -10,8 +10,8 @@ use Rattle.terms.proofs.amounts.GainsAdditive.opposite.Goals as goal
 minus_is : (x : ℤ) → pos 0 -ℤ x ≡ neg_ℤ x
 minus_is x = omega (arith, ints)
 
-pub overflow-sub-each : goal.overflow-sub-each
-overflow-sub-each c =
+pub overflow_sub-each : goal.overflow_sub-each
+overflow_sub-each c =
     let i = c.loop-i.i in
     let x : ℤ = get_or c.loop-i.each i (pos 0) in
     let fx : SFits w64 x = search rules in

@@ -4,8 +4,8 @@ use Rattle.std.proofs.lemmas.Int.{to_z-of_z}
 use Rattle.terms.proofs.Rows.{at_size, none_written, one_written, all_written, row_plus_at}
 use Rattle.terms.proofs.amounts.GainsAdditive.sum.Goals as goal
 
-pub overflow-add-each : goal.overflow-add-each
-overflow-add-each c =
+pub overflow_add-each : goal.overflow_add-each
+overflow_add-each c =
     let i = c.loop-i.i in
     let x : ℤ = get_or c.loop-i.each i (pos 0) in
     let y : ℤ = get_or c.args.other.each i (pos 0) in
