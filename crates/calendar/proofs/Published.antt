@@ -10,10 +10,10 @@ use Rattle.calendar.specs.declared.load.Load.TheVariants.{Base}
 use Rattle.calendar.proofs.Masks.{mask_small}
 
 -- the ones of a number of k bits, counted bit by bit
-ones_in : (k n : ℕ) → n < 2 ^ k → ones n ≡ ones_in k n
+ones_counted : (k n : ℕ) → n < 2 ^ k → ones n ≡ ones_in k n
 unfolding ones ones_in
-ones_in zero n h = let e : n ≡ 0 = omega arith in ap ones e
-ones_in (suc k) n h = let p = pow-suc 2 k in ones_step n ∙ ap (λ x. n % 2 + x) (ones_in k (n / 2) (omega arith))
+ones_counted zero n h = let e : n ≡ 0 = omega arith in ap ones e
+ones_counted (suc k) n h = let p = pow-suc 2 k in ones_step n ∙ ap (λ x. n % 2 + x) (ones_counted k (n / 2) (omega arith))
 
 counted : (ℕ → ℕ) → ℕ → ℕ → ℕ
 counted mask a zero = 0
@@ -22,7 +22,7 @@ counted mask a (suc n) = counted mask a n + ones_in 25 (mask (a + n))
 hours_counted : (a n : ℕ) → hours_from (load_mask Base) a n ≡ counted (load_mask Base) a n
 unfolding hours_from counted load_mask
 hours_counted a zero = refl
-hours_counted a (suc n) = ap₂ ◌+◌ (hours_counted a n) (ones_in 25 (load_mask Base (a + n)) (mask_small 25 (delivers Base (a + n))))
+hours_counted a (suc n) = ap₂ ◌+◌ (hours_counted a n) (ones_counted 25 (load_mask Base (a + n)) (mask_small 25 (delivers Base (a + n))))
 
 pub stand : every published ≡ true
 unfolding day_of month_start month_length lengths start_from month_of month_from last_sunday_of counted ones_in load_mask

@@ -9,8 +9,8 @@ loop-i-init g c = (refl, omega arith)
 pub loop-i-preserved : goal.loop-i-preserved
 unfolding hours_from
 loop-i-preserved g c =
-    let v = c.hours-of-day-sum.ensures.value in
-    let b = c.hours-of-day-sum.ensures.bound in
+    let v = c.hours_of_day-sum.ensures.value in
+    let b = c.hours_of_day-sum.ensures.bound in
     let i = c.loop-i.invariant in
     (rw (add-one c.loop-i.i) (omega (arith, i.0, v)), omega (arith, i.1, b))
 

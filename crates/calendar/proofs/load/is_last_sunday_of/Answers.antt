@@ -23,7 +23,7 @@ returns-then-month c =
     let d = c.args.day.number in
     let sunday = eq-eqb _ 6 (sym c.in-Sunday.ensures.value) in
     let month = eq-eqb (month_of d % 12) c.args.month (ap (λ m. m % 12) (sym c.month.ensures.value) ∙ c.if-month.true) in
-    ap (λ n. ltb (n - d) 7) c.last-of-month.ensures.value ∙ last_week_is d ∙ sym (rw (sunday, month))
+    ap (λ n. ltb (n - d) 7) c.last_of_month.ensures.value ∙ last_week_is d ∙ sym (rw (sunday, month))
 
 pub returns-else-month : goal.returns-else-month
 unfolding last_sunday_of
@@ -34,8 +34,8 @@ returns-else-month c =
     let other : eqb (month_of d % 12) c.args.month ≡ false = ap (λ m. eqb (m % 12) c.args.month) (sym c.month.ensures.value) ∙ month in
     month ∙ sym (rw (sunday, other))
 
-pub returns-in-default : goal.returns-in-default
+pub returns-in_default : goal.returns-in_default
 unfolding last_sunday_of
-returns-in-default c =
-    let other = ne_eqb (weekday_at c.args.day.number) 6 (λ e. c.in-default.not-Sunday (sunday_only _ (c.weekday.ensures.value ∙ e))) in
+returns-in_default c =
+    let other = ne_eqb (weekday_at c.args.day.number) 6 (λ e. c.in_default.not-Sunday (sunday_only _ (c.weekday.ensures.value ∙ e))) in
     sym (rw other)
