@@ -23,11 +23,11 @@ returns-then-len-ge8 g c =
     let full : leb 8 (length is) ≡ true = le-leb 8 (length is) (omega arith) in
     record { answer = ap answer_by (sym (full_instruments is u range fresh full)); table = refl; profiles = refl }
 
-rows : (g : given.Over) (c : goal.After-push-reserved g) → map instr (vec_items c.push-reserved.new.self) ≡ (table_of c.args.self.now).instruments ++ instr c.args.instrument ∷ []
-rows g c = ap (map instr) c.push-reserved.ensures.items ∙ map_push instr (vec_items c.args.self.now.instruments) c.args.instrument
+rows : (g : given.Over) (c : goal.After-push_reserved g) → map instr (vec_items c.push_reserved.new.self) ≡ (table_of c.args.self.now).instruments ++ instr c.args.instrument ∷ []
+rows g c = ap (map instr) c.push_reserved.ensures.items ∙ map_push instr (vec_items c.args.self.now.instruments) c.args.instrument
 
-pub invariant-of-self : goal.invariant-of-self
-invariant-of-self g c =
+pub invariant_of-self : goal.invariant_of-self
+invariant_of-self g c =
     let s = c.args.self.now in
     let is = (table_of c.args.self.now).instruments in
     let u = c.args.instrument.number in
@@ -40,9 +40,9 @@ invariant-of-self g c =
     let i = instr c.args.instrument in
     let kept = instruments_more (table_of s).instruments i s.instruments_kept (ap is_some none) in
     let still = contracts_still (table_of s) i s.contracts_kept in
-    let cap = c.push-reserved.ensures.capacity in
+    let cap = c.push_reserved.ensures.capacity in
     let room = s.instruments_room in
-    (s.ahead, (s.near, (omega arith, (s.contracts_room, (subst InstrumentsKept (sym (rows g c)) kept, (subst (λ (is : List Instr). ContractsKept (record { date = s.date.number; horizon = s.horizon.number; instruments = is; contracts = (table_of s).contracts })) (sym (rows g c)) still, tt))))))
+    record { ahead = s.ahead; near = s.near; instruments_room = omega arith; contracts_room = s.contracts_room; instruments_kept = subst InstrumentsKept (sym (rows g c)) kept; contracts_kept = subst (λ (is : List Instr). ContractsKept (record { date = s.date.number; horizon = s.horizon.number; instruments = is; contracts = (table_of s).contracts })) (sym (rows g c)) still }
 
 pub returns : goal.returns
 returns g c =
@@ -55,9 +55,9 @@ returns g c =
     let m = c.args.self.now.instruments.ok.0 in
     let l = c.len.ensures in
     let none = few_instruments is u range fresh (lt-leb 8 (length is) (omega arith)) in
-    let row = ap (map instr) c.push-reserved.ensures.items ∙ map_push instr (vec_items s.instruments) c.args.instrument in
+    let row = ap (map instr) c.push_reserved.ensures.items ∙ map_push instr (vec_items s.instruments) c.args.instrument in
     record {
       answer = ap answer_by (sym none);
       table = ap (λ (is : List Instr). record { date = s.date.number; horizon = s.horizon.number; instruments = is; contracts = (table_of s).contracts }) row;
-      profiles = c.push-reserved.ensures.items;
+      profiles = c.push_reserved.ensures.items;
     }

@@ -16,13 +16,13 @@ loop-number-init g c =
     let l = seen t.date c.args.line in
     any_false (gives_on t x l) x.first (λ d h. and_left (covers x d && ltb t.date d) (takes t l d) (and_left (covers x d) (ltb t.date d) (and_left (leb x.first d) (leb d (last_day x)) (lt-leb x.first d h))))
 
-pub returns-then-gives-on : goal.returns-then-gives-on
-returns-then-gives-on g c =
+pub returns-then-gives_on : goal.returns-then-gives_on
+returns-then-gives_on g c =
     let e = c.args.contract.ends in
-    sym (any_from _ (suc (last_day (listed c.args.contract))) c.loop-number.number (omega arith) (sym c.if-gives-on.ensures))
+    sym (any_from _ (suc (last_day (listed c.args.contract))) c.loop-number.number (omega arith) (sym c.if-gives_on.ensures))
 
 pub loop-number-preserved : goal.loop-number-preserved
-loop-number-preserved g c = any_more _ c.loop-number.number c.loop-number.invariant (sym c.if-gives-on.ensures)
+loop-number-preserved g c = any_more _ c.loop-number.number c.loop-number.invariant (sym c.if-gives_on.ensures)
 
 pub returns : goal.returns
 returns g c =

@@ -7,15 +7,15 @@ use Rattle.contracts.proofs.table.ContractTable.has_week.Goals as goal
 pub loop-c-init : goal.loop-c-init
 loop-c-init g c = any_none _
 
-pub returns-then-is-week-with : goal.returns-then-is-week-with
-returns-then-is-week-with g c =
+pub returns-then-is_week_with : goal.returns-then-is_week_with
+returns-then-is_week_with g c =
     let s = c.args.self.now in
-    row_here (week_with (table_of s) c.args.instrument c.args.day.number) c.deref-c-items.result.now (vec_items s.contracts) _ c.c-item.result c.deref-c-items.ensures.value c.loop-c-test.true c.c-item.is (sym c.if-is-week-with.ensures)
+    row_here (week_with (table_of s) c.args.instrument c.args.day.number) c.deref-c-items.result.now (vec_items s.contracts) _ c.c-item.result c.deref-c-items.ensures.value c.loop-c-test.true c.c-item.is (sym c.if-is_week_with.ensures)
 
 pub loop-c-preserved : goal.loop-c-preserved
 loop-c-preserved g c =
     let s = c.args.self.now in
-    row_more (week_with (table_of s) c.args.instrument c.args.day.number) c.deref-c-items.result.now (vec_items s.contracts) _ c.c-item.result c.deref-c-items.ensures.value c.loop-c-test.true c.c-item.is c.loop-c.invariant (sym c.if-is-week-with.ensures)
+    row_more (week_with (table_of s) c.args.instrument c.args.day.number) c.deref-c-items.result.now (vec_items s.contracts) _ c.c-item.result c.deref-c-items.ensures.value c.loop-c-test.true c.c-item.is c.loop-c.invariant (sym c.if-is_week_with.ensures)
 
 pub returns : goal.returns
 returns g c =

@@ -5,8 +5,8 @@ use Rattle.calendar.proofs.Parts.{last_after}
 use Rattle.contracts.specs.Hours.{mask_in}
 use Rattle.contracts.proofs.table.ContractTable.hours_of_contract.Goals as goal
 
-pub overflow-sub-i-end : goal.overflow-sub-i-end
-overflow-sub-i-end g c =
+pub overflow_sub-i-end : goal.overflow_sub-i-end
+overflow_sub-i-end g c =
     let f = last_after c.args.contract.terms.maturity c.args.contract.terms.first.number in
     let e = c.args.contract.ends in
     omega arith
@@ -18,8 +18,8 @@ loop-i-init g c = (refl, omega arith)
 pub loop-i-preserved : goal.loop-i-preserved
 unfolding hours_from
 loop-i-preserved g c =
-    let v = c.hours-on-sum.ensures.value in
-    let b = c.hours-on-sum.ensures.bound in
+    let v = c.hours_on-sum.ensures.value in
+    let b = c.hours_on-sum.ensures.bound in
     let i = c.loop-i.invariant in
     (rw (add-one c.loop-i.i) (omega (arith, i.0, v)), omega (arith, i.1, b))
 

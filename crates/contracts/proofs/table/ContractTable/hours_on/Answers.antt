@@ -16,10 +16,10 @@ returns-then-i-instrument g c =
     let d = c.args.day.number in
     let i = c.loop-i.i-index in
     record {
-      value = c.hours-of-day.ensures.value ∙ ap ones (
+      value = c.hours_of_day.ensures.value ∙ ap ones (
           mask_here g.P.Profile.mask c.deref-i-items.result.now i u d c.i-item.result c.loop-i-test.true c.i-item.is c.if-i-instrument.true
           ∙ ap (λ (l : List (Instrument g.row.P.Denot)). mask_in g.P.Profile.mask (drop i l) u d) c.deref-i-items.ensures.value ∙ c.loop-i.invariant);
-      bound = c.hours-of-day.ensures.bound;
+      bound = c.hours_of_day.ensures.bound;
     }
 
 pub loop-i-preserved : goal.loop-i-preserved

@@ -13,17 +13,17 @@ use Rattle.contracts.specs.Views.{table_of}
 use Rattle.contracts.proofs.Keeping.{none_refused, full_refused, date_refused, period_ok, period_err}
 use Rattle.contracts.proofs.table.ContractTable.last_day_of.Goals as goal
 
-pub returns-in-err-period : goal.returns-in-err-period
-returns-in-err-period g c =
+pub returns-in_err-period : goal.returns-in_err-period
+returns-in_err-period g c =
     let t = table_of c.args.self.now in
     let x = said_in c.args.terms in
     let own_range : holds_in Contract (pos x.number) ≡ true = search rules in
     let other-range : holds_in Instrument (pos x.instrument) ≡ true = search rules in
     let numbered = and_from (holds_in Contract (pos x.number)) (holds_in Instrument (pos x.instrument)) own_range other-range in
     let known : is_numbered x.instrument t.instruments ≡ true = ap is_some (sym c.in-Some.ensures) in
-    let apart : is_repeated x t.contracts ≡ false = sym c.if-is-repeated.ensures in
-    let p = err_from_is_err_and c.from-residual.result c.from-residual.ensures.1 in
-    let e = period_err x.maturity x.first c.in-err-period.field-0.0 c.in-err-period.ensures.value in
+    let apart : is_repeated x t.contracts ≡ false = sym c.if-is_repeated.ensures in
+    let p = err_from_is_err_and c.from_residual.result c.from_residual.ensures.1 in
+    let e = period_err x.maturity x.first c.in_err-period.field-0.0 c.in_err-period.ensures.value in
     let late : keeps_dates t x ≡ false = and_left (starts_on x.maturity x.first && leb (last_day x) 36524) (is_due t (option_in t x.instrument) x) e.0 in
     ap day_in p.1 ∙ ap Err (p.2 ∙ e.1) ∙ ap (last_by (last_day x)) (sym (date_refused t x numbered known apart late))
 
@@ -35,9 +35,9 @@ returns-then-len-ge128 g c =
     let other-range : holds_in Instrument (pos x.instrument) ≡ true = search rules in
     let numbered = and_from (holds_in Contract (pos x.number)) (holds_in Instrument (pos x.instrument)) own_range other-range in
     let known : is_numbered x.instrument t.instruments ≡ true = ap is_some (sym c.in-Some.ensures) in
-    let apart : is_repeated x t.contracts ≡ false = sym c.if-is-repeated.ensures in
-    let period = period_ok x.maturity x.first (c.in-ok-period.period.first.number, c.in-ok-period.period.last.number) c.in-ok-period.ensures.value in
-    let due : is_due t (option_in t x.instrument) x ≡ true = subst (λ o. is_due t (is_some_option o) x ≡ true) c.in-Some.ensures (sym c.if-not-is-due.ensures) in
+    let apart : is_repeated x t.contracts ≡ false = sym c.if-is_repeated.ensures in
+    let period = period_ok x.maturity x.first (c.in_ok-period.period.first.number, c.in_ok-period.period.last.number) c.in_ok-period.ensures.value in
+    let due : is_due t (option_in t x.instrument) x ≡ true = subst (λ o. is_due t (is_some_option o) x ≡ true) c.in-Some.ensures (sym c.if-not-is_due.ensures) in
     let dated : keeps_dates t x ≡ true = and_from (starts_on x.maturity x.first && leb (last_day x) 36524) (is_due t (option_in t x.instrument) x) period.0 due in
     let n = length-map (vec_items c.args.self.now.contracts) listed in
     let m = c.args.self.now.contracts.ok.0 in
@@ -53,9 +53,9 @@ returns g c =
     let other-range : holds_in Instrument (pos x.instrument) ≡ true = search rules in
     let numbered = and_from (holds_in Contract (pos x.number)) (holds_in Instrument (pos x.instrument)) own_range other-range in
     let known : is_numbered x.instrument t.instruments ≡ true = ap is_some (sym c.in-Some.ensures) in
-    let apart : is_repeated x t.contracts ≡ false = sym c.if-is-repeated.ensures in
-    let period = period_ok x.maturity x.first (c.in-ok-period.period.first.number, c.in-ok-period.period.last.number) c.in-ok-period.ensures.value in
-    let due : is_due t (option_in t x.instrument) x ≡ true = subst (λ o. is_due t (is_some_option o) x ≡ true) c.in-Some.ensures (sym c.if-not-is-due.ensures) in
+    let apart : is_repeated x t.contracts ≡ false = sym c.if-is_repeated.ensures in
+    let period = period_ok x.maturity x.first (c.in_ok-period.period.first.number, c.in_ok-period.period.last.number) c.in_ok-period.ensures.value in
+    let due : is_due t (option_in t x.instrument) x ≡ true = subst (λ o. is_due t (is_some_option o) x ≡ true) c.in-Some.ensures (sym c.if-not-is_due.ensures) in
     let dated : keeps_dates t x ≡ true = and_from (starts_on x.maturity x.first && leb (last_day x) 36524) (is_due t (option_in t x.instrument) x) period.0 due in
     let n = length-map (vec_items c.args.self.now.contracts) listed in
     let m = c.args.self.now.contracts.ok.0 in

@@ -22,7 +22,7 @@ loop-i-preserved g c =
     let lt : i < length items = subst (λ (l : List (Instrument g.row.P.Denot)). i < length l) c.deref-i-items.ensures.value c.loop-i-test.true in
     let is : x ≡ get_or items i x = subst (λ (l : List (Instrument g.row.P.Denot)). x ≡ get_or l i x) c.deref-i-items.ensures.value c.i-item.is in
     let front = map (seen s.date.number) (vec_items c.loop-i.lines) in
-    ap (λ (l : List spec.Line). l ++ all_timely (table_of s) (numbers_of (drop (i + 1) items))) c.in-ok-push-timely.ensures
+    ap (λ (l : List spec.Line). l ++ all_timely (table_of s) (numbers_of (drop (i + 1) items))) c.in_ok-push_timely.ensures
     ∙ append_assoc front (timely (table_of s) x.number) (all_timely (table_of s) (numbers_of (drop (i + 1) items)))
     ∙ ap (λ (l : List spec.Line). front ++ l) (sym (timely_here (table_of s) items i x lt is)) ∙ c.loop-i.invariant
 
@@ -34,4 +34,4 @@ returns g c =
     let end : length items ≤ i = subst (λ (l : List (Instrument g.row.P.Denot)). length l ≤ i) c.deref-i-items.ensures.value c.loop-i-test.false in
     let front = map (seen s.date.number) (vec_items c.loop-i.lines) in
     let all = no_more s.date.number (vec_items c.loop-i.lines) _ (ap (λ (l : List spec.Line). front ++ l) (sym (timely_all (table_of s) items i end)) ∙ c.loop-i.invariant) in
-    c.in-ok-push-own.ensures ∙ ap (λ (l : List spec.Line). l ++ owns (table_of s) 0 (table_of s).contracts) all
+    c.in_ok-push_own.ensures ∙ ap (λ (l : List spec.Line). l ++ owns (table_of s) 0 (table_of s).contracts) all

@@ -17,7 +17,7 @@ loop-number-preserved g c =
     let s = c.args.self.now in
     let n = c.loop-number.number in
     let here = days_more c.args.instrument n (s.horizon.number + 1) c.loop-number-test.true in
-    one_more s.date.number (vec_items c.loop-number.lines) _ _ _ _ c.in-ok-push.ensures.items
+    one_more s.date.number (vec_items c.loop-number.lines) _ _ _ _ c.in_ok-push.ensures.items
     (ap (λ (r : List spec.Line). map (seen s.date.number) (vec_items c.loop-number.lines) ++ r) (sym here) ∙ c.loop-number.invariant)
 
 pub returns : goal.returns

@@ -10,7 +10,7 @@ use Rattle.contracts.specs.declared.line.Line.{Line}
 use Rattle.contracts.specs.declared.line.Line.TheVariants.{Own}
 use Rattle.contracts.proofs.Orders.{one_more, no_more, own_here, own_past, own_all}
 use Rattle.contracts.proofs.table.ContractTable.push_own.Goals as goal
-use Rattle.contracts.proofs.table.ContractTable.push_own.Goals.{then-has-line+in-ok-push, else-has-line}
+use Rattle.contracts.proofs.table.ContractTable.push_own.Goals.{then-has_line+in_ok-push, else-has_line}
 
 -- the places of the contracts, read as `cs`, from i on
 module _ (t : Table) (cs items : List Contract) (v : cs ≡ items) (ls ms : List Line) (whole : List spec.Line) (i : ℕ) where
@@ -33,9 +33,9 @@ module _ (t : Table) (cs items : List Contract) (v : cs ≡ items) (ls ms : List
 pub loop-i-preserved : goal.loop-i-preserved
 loop-i-preserved g c =
     let s = c.args.self.now in
-    elim c.if-has-line.branch [
-      | then-has-line+in-ok-push w ↦ with_line (table_of s) c.deref-c-items.result.now (vec_items s.contracts) c.deref-c-items.ensures.value (vec_items c.loop-i.lines) _ _ _ c.c-item.result c.loop-i-test.true c.c-item.is (sym w.if-has-line.ensures) (ap vec_items w.lines-is ∙ w.in-ok-push.ensures.items) c.loop-i.invariant
-      | else-has-line w ↦ without (table_of s) c.deref-c-items.result.now (vec_items s.contracts) c.deref-c-items.ensures.value (vec_items c.loop-i.lines) _ _ _ c.c-item.result c.loop-i-test.true c.c-item.is (sym w.if-has-line.ensures) (ap vec_items w.lines-is) c.loop-i.invariant
+    elim c.if-has_line.branch [
+      | then-has_line+in_ok-push w ↦ with_line (table_of s) c.deref-c-items.result.now (vec_items s.contracts) c.deref-c-items.ensures.value (vec_items c.loop-i.lines) _ _ _ c.c-item.result c.loop-i-test.true c.c-item.is (sym w.if-has_line.ensures) (ap vec_items w.lines-is ∙ w.in_ok-push.ensures.items) c.loop-i.invariant
+      | else-has_line w ↦ without (table_of s) c.deref-c-items.result.now (vec_items s.contracts) c.deref-c-items.ensures.value (vec_items c.loop-i.lines) _ _ _ c.c-item.result c.loop-i-test.true c.c-item.is (sym w.if-has_line.ensures) (ap vec_items w.lines-is) c.loop-i.invariant
     ]
 
 pub returns : goal.returns
