@@ -10,11 +10,11 @@ use Rattle.bookkeeping.proofs.driving.drive.Goals as goal
 
 pub loop-i-init : goal.loop-i-init
 loop-i-init g c =
-    let made = c.in-ok-answers.ensures in
+    let made = c.in_ok-answers.ensures in
     (driven_none _ _ _ made.items, c.entries.ensures.follows, refl, made.capacity, ap length made.items)
 
-pub push-reserved-requires : goal.push-reserved-requires
-push-reserved-requires g c =
+pub push_reserved-requires : goal.push_reserved-requires
+push_reserved-requires g c =
     let inv = c.loop-i.invariant in
     let n = c.loop-i.answers.ok.0 in
     omega (arith, inv.3, inv.4, c.loop-i-test.true)
@@ -23,9 +23,9 @@ pub loop-i-preserved : goal.loop-i-preserved
 loop-i-preserved g c =
     let inv = c.loop-i.invariant in
     let d : Call = Enter blank.trade in
-    let more = c.push-reserved.ensures.items in
+    let more = c.push_reserved.ensures.items in
     let n = ap length more ∙ length_push (vec_items c.loop-i.answers) c.take.result in
-    let cap = c.push-reserved.ensures.capacity in
+    let cap = c.push_reserved.ensures.capacity in
     (driven_more _ _ _ c.args.calls.now _ _ c.loop-i.i d c.take.result c.loop-i-test.true inv.0 c.take.ensures.answer c.take.ensures.state more, c.take.ensures.follows, c.take.ensures.lent ∙ inv.2, omega (arith, inv.3), omega (arith, inv.4))
 
 pub returns : goal.returns

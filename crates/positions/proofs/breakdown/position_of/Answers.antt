@@ -8,8 +8,8 @@ use Rattle.positions.proofs.breakdown.position_of.Goals as goal
 pub loop-i-init : goal.loop-i-init
 loop-i-init g c = none_written _ _ refl
 
-pub offset-bounds-shares-i : goal.offset-bounds-shares-i
-offset-bounds-shares-i g c =
+pub offset_bounds-shares-i : goal.offset_bounds-shares-i
+offset_bounds-shares-i g c =
     let s = c.args.table.now in
     let f = few_items (table_of s) (vec_items s.contracts) c.len-count.result s.contracts_kept refl (c.len-count.ensures ∙ s.contracts.ok.0) in
     omega (arith, f.0)
@@ -20,8 +20,8 @@ bounds-shares-i g c =
     let f = few_items (table_of s) (vec_items s.contracts) c.len-count.result s.contracts_kept refl (c.len-count.ensures ∙ s.contracts.ok.0) in
     omega (arith, f.0)
 
-pub slice-bounds-total-end : goal.slice-bounds-total-end
-slice-bounds-total-end g c =
+pub slice_bounds-total-end : goal.slice_bounds-total-end
+slice_bounds-total-end g c =
     let s = c.args.table.now in
     let f = few_items (table_of s) (vec_items s.contracts) c.len-count.result s.contracts_kept refl (c.len-count.ensures ∙ s.contracts.ok.0) in
     let long = c.loop-i.invariant.long in

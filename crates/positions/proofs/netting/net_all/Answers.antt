@@ -10,9 +10,9 @@ unfolding relations
 returns g c i =
     let t = table_of c.args.table.now in
     let p = placed c.args.positions.now in
-    let after-years = c.net-tier.ensures.value in
-    let after-seasons = c.net-tier-2.ensures.value in
-    let two : (k : ℕ) → placed c.net-tier-2.new.positions k ≡ net_all (relations_of t seasons) (net_all (relations_of t years) p) k = λ k. after-seasons k ∙ net_all_same (relations_of t seasons) _ (net_all (relations_of t years) p) after-years k in
-    c.net-tier-3.ensures.value i
+    let after-years = c.net_tier.ensures.value in
+    let after-seasons = c.net_tier-2.ensures.value in
+    let two : (k : ℕ) → placed c.net_tier-2.new.positions k ≡ net_all (relations_of t seasons) (net_all (relations_of t years) p) k = λ k. after-seasons k ∙ net_all_same (relations_of t seasons) _ (net_all (relations_of t years) p) after-years k in
+    c.net_tier-3.ensures.value i
     ∙ net_all_same (relations_of t quarters) _ (net_all (relations_of t seasons) (net_all (relations_of t years) p)) two i
     ∙ sym (net_all_append (relations_of t years) (relations_of t seasons ++ relations_of t quarters) p i ∙ net_all_append (relations_of t seasons) (relations_of t quarters) (net_all (relations_of t years) p) i)

@@ -9,8 +9,8 @@ use Rattle.positions.proofs.Driving.{net_all_size}
 use Rattle.positions.proofs.Members.{members, from_start}
 use Rattle.positions.proofs.netting.net_place.Goals as goal
 
-pub net-once-requires : goal.net-once-requires
-net-once-requires g c =
+pub net_once-requires : goal.net_once-requires
+net_once-requires g c =
     let s = c.args.table.now in
     let p = c.in-Some.parts in
     let found = c.in-Some.ensures.parts in
@@ -27,8 +27,8 @@ returns-in-Some g c =
     let found = c.in-Some.ensures.parts in
     let was = placed c.args.positions.now in
     let others : take (p.count - 0) p.places ≡ (relation_of t x i).others = from_start p.count p.places ∙ found.1 in
-    let value : (k : ℕ) → placed c.net-once.new.positions k ≡ net_all (relations_over t x (i ∷ [])) was k =
-    λ k. c.net-once.ensures k ∙ ap (λ (os : List ℕ). net (related i os) was k) others ∙ sym (ap (λ (rs : List Relation). net_all rs was k) (cond-true (is_listed t x i) (relation_of t x i ∷ []) [] found.0)) in
+    let value : (k : ℕ) → placed c.net_once.new.positions k ≡ net_all (relations_over t x (i ∷ [])) was k =
+    λ k. c.net_once.ensures k ∙ ap (λ (os : List ℕ). net (related i os) was k) others ∙ sym (ap (λ (rs : List Relation). net_all rs was k) (cond-true (is_listed t x i) (relation_of t x i ∷ []) [] found.0)) in
     record {
       value = value;
       small = λ j. subst (λ y. nat_abs y ≤ 2 ^ 62) (sym (value j)) (net_all_size (relations_over t x (i ∷ [])) was j (2 ^ 62) (c.requires.small j));

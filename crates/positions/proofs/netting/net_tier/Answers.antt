@@ -14,8 +14,8 @@ loop-place-init g c =
     let z : n - 0 ≡ n = omega arith in
     (c.requires.long, (λ k. ap (λ m. net_all (relations_over (table_of c.args.table.now) (tier_of c.args.tier) (range_with_len 0 m)) (placed c.args.positions.now) k) z), c.requires.small)
 
-pub net-place-requires : goal.net-place-requires
-net-place-requires g c =
+pub net_place-requires : goal.net_place-requires
+net_place-requires g c =
     let i = c.loop-place.invariant in
     let l = c.requires.long in
     record { within = omega (arith, i.0); long = i.0; small = i.2 }
@@ -24,8 +24,8 @@ pub loop-place-preserved : goal.loop-place-preserved
 loop-place-preserved g c =
     let i = c.loop-place.invariant in
     let l = c.requires.long in
-    let kept : length c.net-place.new.positions ≡ length c.loop-place.positions = search rules in
-    (kept ∙ i.0, one_place (table_of c.args.table.now) (tier_of c.args.tier) (size (table_of c.args.table.now)) c.loop-place.place (placed c.loop-place.positions) (placed c.net-place.new.positions) (net_all (relations_of (table_of c.args.table.now) (tier_of c.args.tier)) (placed c.args.positions.now)) (omega arith) c.net-place.ensures.value i.1, c.net-place.ensures.small)
+    let kept : length c.net_place.new.positions ≡ length c.loop-place.positions = search rules in
+    (kept ∙ i.0, one_place (table_of c.args.table.now) (tier_of c.args.tier) (size (table_of c.args.table.now)) c.loop-place.place (placed c.loop-place.positions) (placed c.net_place.new.positions) (net_all (relations_of (table_of c.args.table.now) (tier_of c.args.tier)) (placed c.args.positions.now)) (omega arith) c.net_place.ensures.value i.1, c.net_place.ensures.small)
 
 pub returns : goal.returns
 returns g c =

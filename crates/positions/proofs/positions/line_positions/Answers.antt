@@ -19,16 +19,16 @@ loop-line-preserved g c =
     let q = placed c.args.quantities.now in
     let l = c.line-item.result in
     let i = c.loop-line.line-index in
-    let z = c.position-of-position.result in
+    let z = c.position_of-position.result in
     let fits : SFits w64 z = search rules in
     let same = to_z-of_z w64 z fits in
-    let n = c.netted-at.result in
+    let n = c.netted_at.result in
     let fits-n : SFits w64 n = search rules in
     let same-n = to_z-of_z w64 n fits-n in
-    let value = same ∙ c.position-of-position.ensures.value in
-    let after = same-n ∙ c.netted-at.ensures t.date ∙ ap (λ y. netted_at y c.args.own.now (seen t.date l)) value in (
-      one_line t.date (position t q) c.args.lines.now (vec_items c.loop-line.before) _ i l _ c.loop-line-test.true c.line-item.is c.loop-line.invariant.0 c.in-ok-push.ensures.items value,
-      one_line t.date (netted_by t q c.args.own.now) c.args.lines.now (vec_items c.loop-line.netted) _ i l _ c.loop-line-test.true c.line-item.is c.loop-line.invariant.1 c.in-ok-push-2.ensures.items after,
+    let value = same ∙ c.position_of-position.ensures.value in
+    let after = same-n ∙ c.netted_at.ensures t.date ∙ ap (λ y. netted_at y c.args.own.now (seen t.date l)) value in (
+      one_line t.date (position t q) c.args.lines.now (vec_items c.loop-line.before) _ i l _ c.loop-line-test.true c.line-item.is c.loop-line.invariant.0 c.in_ok-push.ensures.items value,
+      one_line t.date (netted_by t q c.args.own.now) c.args.lines.now (vec_items c.loop-line.netted) _ i l _ c.loop-line-test.true c.line-item.is c.loop-line.invariant.1 c.in_ok-push-2.ensures.items after,
     )
 
 pub returns : goal.returns

@@ -13,10 +13,10 @@ loop-i-init g c = none_gathered _ _ c.new-own.ensures.items
 
 pub loop-i-preserved : goal.loop-i-preserved
 loop-i-preserved g c =
-    let z = c.position-of.result in
+    let z = c.position_of.result in
     let fits : SFits w64 z = search rules in
     let same = to_z-of_z w64 z fits in
-    one_gathered _ (vec_items c.loop-i.own) _ c.loop-i.i _ c.loop-i.invariant c.in-ok-push.ensures.items (same ∙ c.position-of.ensures.value) (subst (λ y. nat_abs y ≤ 2 ^ 38) (sym same) c.position-of.ensures.bound)
+    one_gathered _ (vec_items c.loop-i.own) _ c.loop-i.i _ c.loop-i.invariant c.in_ok-push.ensures.items (same ∙ c.position_of.ensures.value) (subst (λ y. nat_abs y ≤ 2 ^ 38) (sym same) c.position_of.ensures.bound)
 
 pub returns : goal.returns
 returns g c =

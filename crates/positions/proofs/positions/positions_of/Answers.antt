@@ -11,24 +11,24 @@ use Rattle.positions.proofs.Gathering.{made_both, netted_all}
 use Rattle.positions.proofs.Kept.{hours_kept}
 use Rattle.positions.proofs.positions.positions_of.Goals as goal
 
-pub returns-in-err-lines : goal.returns-in-err-lines
-returns-in-err-lines g c = record { value = IfOk-from_err c.from-residual.result _ c.from-residual.ensures.0; law = IfOk-from_err c.from-residual.result _ c.from-residual.ensures.0 }
+pub returns-in_err-lines : goal.returns-in_err-lines
+returns-in_err-lines g c = record { value = IfOk-from_err c.from_residual.result _ c.from_residual.ensures.0; law = IfOk-from_err c.from_residual.result _ c.from_residual.ensures.0 }
 
-pub returns-in-err-own : goal.returns-in-err-own
-returns-in-err-own g c = record { value = IfOk-from_err c.from-residual-in-err-own.result _ c.from-residual-in-err-own.ensures.0; law = IfOk-from_err c.from-residual-in-err-own.result _ c.from-residual-in-err-own.ensures.0 }
+pub returns-in_err-own : goal.returns-in_err-own
+returns-in_err-own g c = record { value = IfOk-from_err c.from_residual-in_err-own.result _ c.from_residual-in_err-own.ensures.0; law = IfOk-from_err c.from_residual-in_err-own.result _ c.from_residual-in_err-own.ensures.0 }
 
 pub returns : goal.returns
 returns g c =
     let s = c.args.table.now in
     let t = table_of s in
     let q = placed c.args.quantities.now in
-    let all : map (seen s.date.number) c.deref.result.now ≡ lines t = ap (map (seen s.date.number)) c.deref.ensures.value ∙ c.in-ok-lines.ensures in
-    let long : length c.net-all.new.positions ≡ c.in-ok-own.own.len = search rules in
-    let own : c.deref-2.result.now ≡ c.net-all.new.positions = c.deref-2.ensures.value ∙ with_items_is c.in-ok-own.own c.net-all.new.positions long in
-    let done : (i : ℕ) → placed c.deref-2.result.now i ≡ net_all (relations t) (placed (vec_items c.in-ok-own.own)) i = λ i. ap (λ (l : List ℤ). placed l i) own ∙ c.net-all.ensures i ∙ ap (λ (l : List ℤ). net_all (relations t) (placed l) i) c.deref-mut.ensures.value in
-    let after : map (netted_by t q c.deref-2.result.now) (lines t) ≡ _ = netted_all s q _ c.deref-2.result.now c.in-ok-own.ensures done in
-    let value = made_both c.line-positions.result _ _ (λ p. PositionsAre t q (vec_items p.before) (vec_items p.netted)) c.line-positions.ensures.before c.line-positions.ensures.netted (λ p b n. record {
+    let all : map (seen s.date.number) c.deref.result.now ≡ lines t = ap (map (seen s.date.number)) c.deref.ensures.value ∙ c.in_ok-lines.ensures in
+    let long : length c.net_all.new.positions ≡ c.in_ok-own.own.len = search rules in
+    let own : c.deref-2.result.now ≡ c.net_all.new.positions = c.deref-2.ensures.value ∙ with_items_is c.in_ok-own.own c.net_all.new.positions long in
+    let done : (i : ℕ) → placed c.deref-2.result.now i ≡ net_all (relations t) (placed (vec_items c.in_ok-own.own)) i = λ i. ap (λ (l : List ℤ). placed l i) own ∙ c.net_all.ensures i ∙ ap (λ (l : List ℤ). net_all (relations t) (placed l) i) c.deref_mut.ensures.value in
+    let after : map (netted_by t q c.deref-2.result.now) (lines t) ≡ _ = netted_all s q _ c.deref-2.result.now c.in_ok-own.ensures done in
+    let value = made_both c.line_positions.result _ _ (λ p. PositionsAre t q (vec_items p.before) (vec_items p.netted)) c.line_positions.ensures.before c.line_positions.ensures.netted (λ p b n. record {
       broken_down = b ∙ ap (map (position t q)) all;
       netted_down = n ∙ ap (map (netted_by t q c.deref-2.result.now)) all ∙ after;
     }) in
-    record { value = value; law = IfOk-weaker c.line-positions.result _ _ (λ p e. hours_kept s _ q _ _ e) value }
+    record { value = value; law = IfOk-weaker c.line_positions.result _ _ (λ p e. hours_kept s _ q _ _ e) value }

@@ -9,7 +9,7 @@ pub loop-o-init : goal.loop-o-init
 loop-o-init c =
     let xs = c.args.positions.now in
     let f : SFits w64 (get_or xs c.args.first (pos 0)) = search rules in
-    let e : c.unsigned-abs-least.result ≡ nat_abs (get_or xs c.args.first (pos 0)) = simp to_z-of_z at c.unsigned-abs-least.ensures.value in
+    let e : c.unsigned_abs-least.result ≡ nat_abs (get_or xs c.args.first (pos 0)) = simp to_z-of_z at c.unsigned_abs-least.ensures.value in
     let l = smallest_le (placed xs) c.args.first c.args.others.now in
     (omega arith, omega arith)
 
@@ -20,7 +20,7 @@ loop-o-preserved c =
     let i = c.loop-o.o-index in
     let g : SFits w64 (get_or xs (get_or os i 0) (pos 0)) = search rules in
     let more = smallest_more (placed xs) c.args.first os i c.loop-o-test.true in
-    let e : c.unsigned-abs.result ≡ nat_abs (get_or xs (get_or os i 0) (pos 0)) = simp to_z-of_z at c.unsigned-abs.ensures.value in
+    let e : c.unsigned_abs.result ≡ nat_abs (get_or xs (get_or os i 0) (pos 0)) = simp to_z-of_z at c.unsigned_abs.ensures.value in
     let m = c.smaller-least.ensures in
     let inv = c.loop-o.invariant in
     (omega (arith, inv.0), omega (arith, inv.1))

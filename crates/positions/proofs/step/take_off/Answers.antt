@@ -5,8 +5,8 @@ use Rattle.positions.specs.Steps.{taken}
 use Rattle.positions.proofs.Rows.{taken_more}
 use Rattle.positions.proofs.step.take_off.Goals as goal
 
-pub toward-zero-less-requires : goal.toward-zero-less-requires
-toward-zero-less-requires c =
+pub toward_zero-less-requires : goal.toward_zero-less-requires
+toward_zero-less-requires c =
     let xs = c.loop-o.positions in
     let os = c.args.others.now in
     let i = c.loop-o.o-index in
@@ -26,9 +26,9 @@ loop-o-preserved c =
     let i = c.loop-o.o-index in
     let l : get_or os i 0 < length xs = search rules in
     let f : SFits w64 (get_or xs (get_or os i 0) (pos 0)) = search rules in
-    let r : SFits w64 c.toward-zero-less.result = search rules in
+    let r : SFits w64 c.toward_zero-less.result = search rules in
     let next = (taken_more c.args.size os i xs (placed c.args.positions.now) c.requires.apart c.loop-o-test.true l c.loop-o.invariant).1 in
-    let e : c.toward-zero-less.result ≡ towards c.args.size (get_or xs (get_or os i 0) (pos 0)) = simp to_z-of_z at c.toward-zero-less.ensures in
+    let e : c.toward_zero-less.result ≡ towards c.args.size (get_or xs (get_or os i 0) (pos 0)) = simp to_z-of_z at c.toward_zero-less.ensures in
     λ j. simp to_z-of_z (ap (λ (v : ℤ). placed (set xs (get_or os i 0) v) j) e ∙ next j)
 
 pub returns : goal.returns
