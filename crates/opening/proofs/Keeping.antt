@@ -1,6 +1,6 @@
 -- Tables with one row more keep the rules.
 use Rattle.std.proofs.Common.{◌≡◌, ℕ, suc, ◌+◌, ◌<◌, Bool, true, false, cond, not, ◌&&◌, ◌||◌, eqb, leb, List, [], ◌∷◌, ◌++◌, length, get_or, take, is_some, Some, None, Ok, Err, Option, sym, refl, ap, ◌∙◌, inl, inr, arith}
-use mathlib.Core.Bool.{or_false, or_assoc}
+use mathlib.Core.Bool.{or-false, or_assoc}
 use Rattle.std.proofs.lemmas.List.{take-append-le, take_at, get_or_append_left, get_or_push, length_push}
 use Rattle.std.proofs.lemmas.Bool.{cases_lt, cases_Bool, not-false, not-true, not_from_true, not_from_false, cond-true, cond-false, and_from, and_parts, or_from, or_parts, or_left, or_right, eqb-true, eqb-false, eq-eqb, ne_eqb, false≢true, both_ways, leb-false}
 use Rattle.terms.specs.Amounts.{no_amount}
@@ -124,14 +124,14 @@ none_opened (r ∷ rs) a c h =
     cond-false (is_of a c r) r.amount (amount_in rs a c) p.0 ∙ none_opened rs a c p.1
 
 opened_push : (rs : List Opened) (r : Opened) (a c : ℕ) → is_opened (rs ++ r ∷ []) a c ≡ (is_opened rs a c || is_of a c r)
-opened_push [] r a c = or_false (is_of a c r)
+opened_push [] r a c = or-false (is_of a c r)
 opened_push (q ∷ rs) r a c = ap (λ b. is_of a c q || b) (opened_push rs r a c) ∙ sym (or_assoc (is_of a c q) _ _)
 
 pub opened_new : (rs : List Opened) (r : Opened) → is_opened (rs ++ r ∷ []) r.account r.contract ≡ true
 opened_new rs r = opened_push rs r r.account r.contract ∙ or_right _ _ (own r)
 
 pub opened_other : (rs : List Opened) (r : Opened) (a c : ℕ) → (a ≡ r.account → c ≡ r.contract → ⊥) → is_opened (rs ++ r ∷ []) a c ≡ is_opened rs a c
-opened_other rs r a c ne = opened_push rs r a c ∙ ap (λ b. is_opened rs a c || b) (other r a c ne) ∙ or_false (is_opened rs a c)
+opened_other rs r a c ne = opened_push rs r a c ∙ ap (λ b. is_opened rs a c || b) (other r a c ne) ∙ or-false (is_opened rs a c)
 
 amount_push : (rs : List Opened) (r : Opened) (a c : ℕ) → is_of a c r ≡ false → amount_in (rs ++ r ∷ []) a c ≡ amount_in rs a c
 amount_push [] r a c h = cond-false (is_of a c r) r.amount no_amount h

@@ -1,6 +1,6 @@
 -- Rows that go by numbers of their own: whether one is there, and its place.
 use Rattle.std.proofs.Common.{◌≡◌, ℕ, suc, ◌+◌, ◌<◌, ◌≤◌, Bool, true, false, cond, ◌||◌, eqb, List, [], ◌∷◌, ◌++◌, length, get_or, drop, Some, None, Option, sym, refl, ap, ◌∙◌, inl, inr, add-zero, zero-add, arith}
-use mathlib.Core.Bool.{or_false, or_assoc}
+use mathlib.Core.Bool.{or-false, or_assoc}
 use Rattle.std.proofs.lemmas.List.{at_drop_more, at_drop_all}
 use Rattle.std.proofs.lemmas.Bool.{cases_Bool, cond-true, cond-false, eq-eqb, ne_eqb, eqb-true, eqb-false, false≢true, both_ways}
 use Rattle.bookkeeping.specs.State.{is_account, is_listing, account_place, listing_place, kind_of}
@@ -71,7 +71,7 @@ module _ {X : Type 0} (f : Numbered X) (u : ℕ) where
 
   -- ---- one row more
   pub is_push : (xs : List X) (x : X) → f.is u (xs ++ x ∷ []) ≡ (f.is u xs || eqb (f.key x) u)
-  is_push [] x = rw (f.is_more u x [], f.is_none u, or_false)
+  is_push [] x = rw (f.is_more u x [], f.is_none u, or-false)
   is_push (y ∷ xs) x = rw (f.is_more u y (xs ++ x ∷ []), f.is_more u y xs, is_push xs x, or_assoc (eqb (f.key y) u))
 
   pub place_push : (xs : List X) (x : X) → f.is u xs ≡ true → f.place u (xs ++ x ∷ []) ≡ f.place u xs

@@ -1,6 +1,6 @@
 -- Which lines a contract table has.
 use Rattle.std.proofs.Common.{◌≡◌, ℕ, zero, suc, ◌+◌, ◌-◌, ◌<◌, ◌≤◌, Bool, true, false, cond, ◌&&◌, ◌||◌, eqb, ltb, leb, List, [], ◌∷◌, ◌++◌, map, get_or, Some, None, sym, refl, ap, ◌∙◌, inl, inr, arith}
-use mathlib.Core.Bool.{or_false}
+use mathlib.Core.Bool.{or-false}
 use Rattle.std.proofs.lemmas.List.{get_or_append_left, get_or_past}
 use Rattle.std.proofs.lemmas.Bool.{cases_Bool, cases_lt, eq-eqb, ne_eqb, or_from, or_cases, or_left, or_right, both_ways, and_parts, and_from, false≢true, cond-true, cond-false}
 use Rattle.std.proofs.lemmas.Bool.Decides.{nat_tests}
@@ -39,7 +39,7 @@ day_timely : (t : Table) (u v d : ℕ) → is_among (day u d) (timely t v) ≡ (
 day_timely t u v d =
     let a = among_append (day u d) (map (day v) (range_with_len (t.date + 1) (t.horizon - t.date))) (rest v (month_of t.date) ∷ rest v (month_of t.date + 1) ∷ []) in
     let b = days_among u v d (t.date + 1) (t.horizon - t.date) in
-    a ∙ or_false _ ∙ b ∙ grind (arith, nat_tests)
+    a ∙ or-false _ ∙ b ∙ grind (arith, nat_tests)
 
 rest_timely : (t : Table) (u v m : ℕ) → is_among (rest u m) (timely t v) ≡ (eqb v u && (eqb (month_of t.date) m || eqb (month_of t.date + 1) m))
 rest_timely t u v m =
@@ -50,7 +50,7 @@ rest_timely t u v m =
 own_timely : (t : Table) (j v : ℕ) → is_among (own j) (timely t v) ≡ false
 own_timely t j v =
     among_append (own j) (map (day v) (range_with_len (t.date + 1) (t.horizon - t.date))) (rest v (month_of t.date) ∷ rest v (month_of t.date + 1) ∷ [])
-    ∙ or_false _ ∙ own_no_day j v (range_with_len (t.date + 1) (t.horizon - t.date))
+    ∙ or-false _ ∙ own_no_day j v (range_with_len (t.date + 1) (t.horizon - t.date))
 
 -- ---- all instruments' lines
 -- what every instrument has, an instrument with that number has
@@ -123,13 +123,13 @@ own_owns t k i (suc j) (c ∷ cs) e =
 pub lines_day : (t : Table) (u d : ℕ) → is_among (day u d) (lines t) ≡ (is_numbered u t.instruments && (ltb t.date d && leb d t.horizon))
 lines_day t u d =
     among_append (day u d) (all_timely t (numbers t)) (owns t 0 t.contracts)
-    ∙ ap (λ (b : Bool). is_among (day u d) (all_timely t (numbers t)) || b) (day_owns t u d 0 t.contracts) ∙ or_false _
+    ∙ ap (λ (b : Bool). is_among (day u d) (all_timely t (numbers t)) || b) (day_owns t u d 0 t.contracts) ∙ or-false _
     ∙ among_timely t (day u d) u (ltb t.date d && leb d t.horizon) (λ v. day_timely t u v d) t.instruments
 
 pub lines_rest : (t : Table) (u m : ℕ) → is_among (rest u m) (lines t) ≡ (is_numbered u t.instruments && (eqb (month_of t.date) m || eqb (month_of t.date + 1) m))
 lines_rest t u m =
     among_append (rest u m) (all_timely t (numbers t)) (owns t 0 t.contracts)
-    ∙ ap (λ (b : Bool). is_among (rest u m) (all_timely t (numbers t)) || b) (rest_owns t u m 0 t.contracts) ∙ or_false _
+    ∙ ap (λ (b : Bool). is_among (rest u m) (all_timely t (numbers t)) || b) (rest_owns t u m 0 t.contracts) ∙ or-false _
     ∙ among_timely t (rest u m) u (eqb (month_of t.date) m || eqb (month_of t.date + 1) m) (λ v. rest_timely t u v m) t.instruments
 
 pub lines_own : (t : Table) (j : ℕ) → is_among (own j) (lines t) ≡ has_line t (nth t j)

@@ -5,9 +5,9 @@ use Rattle.contracts.specs.Views.{table_of}
 use Rattle.tariff.proofs.Keeping.{ok_passes}
 use Rattle.tariff.proofs.adding.add_with_prices.Goals as goal
 
-pub push-reserved-requires : goal.push-reserved-requires
-push-reserved-requires g c =
-    let few = few_lt (table_of c.args.contracts.now) (said_in c.args.terms) (ok_passes _ _ c.in-ok-add-contract.ensures.answer) in
+pub push_reserved-requires : goal.push_reserved-requires
+push_reserved-requires g c =
+    let few = few_lt (table_of c.args.contracts.now) (said_in c.args.terms) (ok_passes _ _ c.in_ok-add_contract.ensures.answer) in
     let room = c.requires.0 in
     let each = c.requires.1 in
     let n = c.args.rows.now.ok.0 in

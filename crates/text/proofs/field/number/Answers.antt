@@ -10,15 +10,15 @@ returns-in-48 c =
     let e : Some (pos 0) ≡ number_of c.args.word.now = search rules in
     record { value = e; law = one_spelling c.args.word.now _ e }
 
-pub returns-in_err-unsigned : goal.returns-in_err-unsigned
-returns-in_err-unsigned c =
+pub returns-in_err-unsigned-in-45 : goal.returns-in_err-unsigned-in-45
+returns-in_err-unsigned-in-45 c =
     let e : c.from_residual.result ≡ number_of c.args.word.now =
-    rw (at_minus c.args.word.now (search rules) (search rules)) (c.from_residual.ensures ∙ ap (option_map neg_ℤ) c.in_err-unsigned.ensures) in
+    rw (at_minus c.args.word.now (search rules) (search rules)) (c.from_residual.ensures ∙ ap (option_map neg_ℤ) c.in_err-unsigned-in-45.ensures) in
     record { value = e; law = one_spelling c.args.word.now _ e }
 
-pub returns-in_ok-unsigned : goal.returns-in_ok-unsigned
-returns-in_ok-unsigned c =
-    let h = c.in_ok-unsigned.ensures in
+pub returns-in_ok-unsigned-in-45 : goal.returns-in_ok-unsigned-in-45
+returns-in_ok-unsigned-in-45 c =
+    let h = c.in_ok-unsigned-in-45.ensures in
     let e : Some _ ≡ number_of c.args.word.now =
     rw (at_minus c.args.word.now (search rules) (search rules)) (ap Some (opposite (after c.args.word.now) _ h) ∙ ap (option_map neg_ℤ) h) in
     record { value = e; law = one_spelling c.args.word.now _ e }

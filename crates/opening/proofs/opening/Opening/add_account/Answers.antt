@@ -10,8 +10,8 @@ use Rattle.opening.proofs.Keeping.{none_lowest, kept_more, apart_more, rows_stil
 use Rattle.opening.proofs.Placing.{account_more, blank_later, all_within}
 use Rattle.opening.proofs.opening.Opening.add_account.Goals as goal
 
-pub invariant-of-self : goal.invariant-of-self
-invariant-of-self c =
+pub invariant_of-self : goal.invariant_of-self
+invariant_of-self c =
     let s = c.args.self.now in
     let x = c.args.account in
     let xs = vec_items s.accounts in
@@ -22,8 +22,8 @@ invariant-of-self c =
     let fresh : is_account x.number xs ≡ false = search rules in
     let long = s.accounts.ok.0 in
     let l = c.len.ensures in
-    let cap = c.push-reserved.ensures.capacity in
-    let longer = c.push-reserved.ensures.len in
+    let cap = c.push_reserved.ensures.capacity in
+    let longer = c.push_reserved.ensures.len in
     let few : leb 32 (length xs) ≡ false = lt-leb 32 (length xs) (omega arith) in
     let refused : is_some (account_refusal xs x) ≡ false = ap is_some (none_lowest _ _ _ _ (not_from_true _ range) refl fresh few) in
     let unopen : (e : ℕ) → is_opened rs x.number e ≡ false = λ e. unopened xs ls rs x.number e s.rows_kept fresh in
@@ -33,6 +33,6 @@ invariant-of-self c =
     let rows = rows_still xs x ls rs s.rows_kept in
     let within = all_within (xs ++ x ∷ []) ls n (vec_items s.amounts) rs told rows in
     let P : List Account → Type 0 = λ l. (are_apart l ≡ true) × Kept account_refusal l × Kept (opening_refusal l ls) rs × ByPlace l ls n (vec_items s.amounts) no_amount (amount_in rs) × ByPlace l ls n (vec_items s.filled) false (is_opened rs) × AllWithin l ls n (vec_items s.amounts) in
-    let all : P (vec_items c.push-reserved.new.self) = subst P (sym c.push-reserved.ensures.items) (apart_more xs x s.apart fresh, kept_more account_refusal xs x s.accounts_kept refused, rows, told, marked, within) in
-    let more : vec_len s.accounts * n ≤ vec_len c.push-reserved.new.self * n = omega (arith, add-mul (vec_len s.accounts) 1 n, ap (λ m. m * n) longer) in
+    let all : P (vec_items c.push_reserved.new.self) = subst P (sym c.push_reserved.ensures.items) (apart_more xs x s.apart fresh, kept_more account_refusal xs x s.accounts_kept refused, rows, told, marked, within) in
+    let more : vec_len s.accounts * n ≤ vec_len c.push_reserved.new.self * n = omega (arith, add-mul (vec_len s.accounts) 1 n, ap (λ m. m * n) longer) in
     (s.listings_few, (omega arith, (s.rows_few, (s.limits_few, (omega arith, (s.rows_room, (s.limits_room, (s.amounts_long, (s.filled_long, (all.0, (all.1, (all.2, (s.limits_kept, (all.3, (all.4, (all.5, (blank_later _ _ _ _ more s.amounts_blank, (blank_later _ _ _ _ more s.filled_blank, tt))))))))))))))))))

@@ -6,8 +6,8 @@ use Rattle.opening.specs.Rules.{limit_within, limit_refusal, Kept}
 use Rattle.opening.proofs.Keeping.{none_lowest, kept_more}
 use Rattle.opening.proofs.opening.Opening.add_limit.Goals as goal
 
-pub invariant-of-self : goal.invariant-of-self
-invariant-of-self c =
+pub invariant_of-self : goal.invariant_of-self
+invariant_of-self c =
     let s = c.args.self.now in
     let y = c.args.limit in
     let ys = vec_items s.limits in
@@ -17,9 +17,9 @@ invariant-of-self c =
     let fresh : is_limited y.contract ys ≡ false = search rules in
     let long = s.limits.ok.0 in
     let l = c.len.ensures in
-    let longer = c.push-reserved.ensures.len in
-    let cap = c.push-reserved.ensures.capacity in
+    let longer = c.push_reserved.ensures.len in
+    let cap = c.push_reserved.ensures.capacity in
     let few : leb 128 (length ys) ≡ false = lt-leb 128 (length ys) (omega arith) in
     let taken : is_some (limit_refusal ls ys y) ≡ false = ap is_some (none_lowest _ _ _ _ (not_from_true _ range) (not_from_true _ known) fresh few) in
-    let kept = subst (Kept (limit_refusal ls)) (sym c.push-reserved.ensures.items) (kept_more (limit_refusal ls) ys y s.limits_kept taken) in
+    let kept = subst (Kept (limit_refusal ls)) (sym c.push_reserved.ensures.items) (kept_more (limit_refusal ls) ys y s.limits_kept taken) in
     (s.listings_few, (s.accounts_few, (s.rows_few, (omega arith, (s.accounts_room, (s.rows_room, (omega arith, (s.amounts_long, (s.filled_long, (s.apart, (s.accounts_kept, (s.rows_kept, (kept, (s.told, (s.marked, (s.within, (s.amounts_blank, (s.filled_blank, tt))))))))))))))))))

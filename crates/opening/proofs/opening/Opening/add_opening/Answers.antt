@@ -34,30 +34,30 @@ ready s r p e =
     let inside = place_inside xs ls n r.account r.contract s.listings.ok.0 few (is.account, is.listing) in
     record { at = ok.0; none = ap is_some ok.1; is = is; low = omega (arith, ok.0, low, long); inside = omega (arith, ok.0, inside) }
 
-pub returns-in-err-place : goal.returns-in-err-place
-returns-in-err-place c =
-    let p = err_from_is_err_and c.from-residual.result c.from-residual.ensures.1 in
+pub returns-in_err-place : goal.returns-in_err-place
+returns-in_err-place c =
+    let p = err_from_is_err_and c.from_residual.result c.from_residual.ensures.1 in
     let t = opening_of c.args.self.now in
-    let refused = place_by_err _ _ _ c.in-err-place.ensures in
+    let refused = place_by_err _ _ _ c.in_err-place.ensures in
     record {
       answer = p.1 ∙ ap Err p.2 ∙ ap answer_by (sym refused);
       said = sym (ap (λ (r : Result (Unit {0}) Refusal). cond (is_ok r) (plus_row t c.args.row) t) p.1);
     }
 
-pub push-reserved-requires : goal.push-reserved-requires
-push-reserved-requires c =
+pub push_reserved-requires : goal.push_reserved-requires
+push_reserved-requires c =
     let s = c.args.self.now in
-    omega (arith, (ready s c.args.row _ c.in-ok-place.ensures).is.few, s.rows.ok.0, s.rows_room)
+    omega (arith, (ready s c.args.row _ c.in_ok-place.ensures).is.few, s.rows.ok.0, s.rows_room)
 
-pub index-mut-requires : goal.index-mut-requires
-index-mut-requires c =
+pub index_mut-requires : goal.index_mut-requires
+index_mut-requires c =
     let s = c.args.self.now in
-    omega (arith, (ready s c.args.row _ c.in-ok-place.ensures).inside, s.amounts_long)
+    omega (arith, (ready s c.args.row _ c.in_ok-place.ensures).inside, s.amounts_long)
 
-pub index-mut-requires-2 : goal.index-mut-requires-2
-index-mut-requires-2 c =
+pub index_mut-requires-2 : goal.index_mut-requires-2
+index_mut-requires-2 c =
     let s = c.args.self.now in
-    omega (arith, (ready s c.args.row _ c.in-ok-place.ensures).inside, s.filled_long)
+    omega (arith, (ready s c.args.row _ c.in_ok-place.ensures).inside, s.filled_long)
 
 -- the rows, and what stands at the places, with the new row
 abbrev Added : Opening → Opened → ℕ → List Opened → Type 0
@@ -83,22 +83,22 @@ added s r p rs ready e =
     let within = all_within xs ls n (set (vec_items s.amounts) at r.amount) (old ++ r ∷ []) told kept in
     subst (Added s r p) (sym e) (subst (λ i. Added s r i (old ++ r ∷ [])) (sym ready.at) (kept, told, marked, within))
 
-pub invariant-of-self : goal.invariant-of-self
-invariant-of-self c =
+pub invariant_of-self : goal.invariant_of-self
+invariant_of-self c =
     let s = c.args.self.now in
     let r = c.args.row in
-    let p = c.in-ok-place.place in
-    let so = ready s r p c.in-ok-place.ensures in
-    let all = added s r p (vec_items c.push-reserved.new.self) so c.push-reserved.ensures.items in
-    let few : vec_len c.push-reserved.new.self ≤ 4096 = omega (arith, so.is.few, s.rows.ok.0, c.push-reserved.ensures.len) in
-    (s.listings_few, (s.accounts_few, (few, (s.limits_few, (s.accounts_room, (omega (arith, s.rows_room, c.push-reserved.ensures.capacity), (s.limits_room, (s.amounts_long, (s.filled_long, (s.apart, (s.accounts_kept, (all.0, (s.limits_kept, (all.1, (all.2, (all.3, (blank_set _ p _ _ _ so.low s.amounts_blank, (blank_set _ p _ _ _ so.low s.filled_blank, tt))))))))))))))))))
+    let p = c.in_ok-place.place in
+    let so = ready s r p c.in_ok-place.ensures in
+    let all = added s r p (vec_items c.push_reserved.new.self) so c.push_reserved.ensures.items in
+    let few : vec_len c.push_reserved.new.self ≤ 4096 = omega (arith, so.is.few, s.rows.ok.0, c.push_reserved.ensures.len) in
+    (s.listings_few, (s.accounts_few, (few, (s.limits_few, (s.accounts_room, (omega (arith, s.rows_room, c.push_reserved.ensures.capacity), (s.limits_room, (s.amounts_long, (s.filled_long, (s.apart, (s.accounts_kept, (all.0, (s.limits_kept, (all.1, (all.2, (all.3, (blank_set _ p _ _ _ so.low s.amounts_blank, (blank_set _ p _ _ _ so.low s.filled_blank, tt))))))))))))))))))
 
 pub returns : goal.returns
 returns c =
     let s = c.args.self.now in
     let r = c.args.row in
-    let ok = place_by_ok _ _ _ c.in-ok-place.ensures in
+    let ok = place_by_ok _ _ _ c.in_ok-place.ensures in
     record {
       answer = ap answer_by (sym ok.1);
-      said = ap (λ (rs : List Opened). record { date = s.date.number; listings = vec_items s.listings; accounts = vec_items s.accounts; rows = rs; limits = vec_items s.limits }) c.push-reserved.ensures.items;
+      said = ap (λ (rs : List Opened). record { date = s.date.number; listings = vec_items s.listings; accounts = vec_items s.accounts; rows = rs; limits = vec_items s.limits }) c.push_reserved.ensures.items;
     }

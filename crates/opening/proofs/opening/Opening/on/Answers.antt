@@ -16,22 +16,22 @@ use Rattle.opening.proofs.opening.Opening.on.Goals as goal
 few : {P : Type 0} (t : ContractTable P) (v : Vec Listing Global) → vec_items v ≡ listings_of (table_of t) → vec_len v ≤ 128
 few t v e = omega (arith, v.ok.0, ap length e, few_contracts (table_of t) t.contracts_kept)
 
-pub overflow-mul-places : goal.overflow-mul-places
-overflow-mul-places g c = omega (arith, c.len-places.ensures, few c.args.table.now c.in-ok-listings.listings c.in-ok-listings.ensures)
+pub overflow_mul-places : goal.overflow_mul-places
+overflow_mul-places g c = omega (arith, c.len-places.ensures, few c.args.table.now c.in_ok-listings.listings c.in_ok-listings.ensures)
 
-pub invariant-of-result : goal.invariant-of-result
-invariant-of-result g c =
-    let ls = vec_items c.in-ok-listings.listings in
-    let n = vec_len c.in-ok-listings.listings in
-    let accounts = c.in-ok-accounts.ensures in
-    let rows = c.in-ok-rows.ensures in
-    let limits = c.in-ok-limits.ensures in
-    let amounts = c.in-ok-amounts.ensures in
-    let filled = c.in-ok-filled.ensures in
-    let short = few c.args.table.now c.in-ok-listings.listings c.in-ok-listings.ensures in
+pub invariant_of-result : goal.invariant_of-result
+invariant_of-result g c =
+    let ls = vec_items c.in_ok-listings.listings in
+    let n = vec_len c.in_ok-listings.listings in
+    let accounts = c.in_ok-accounts.ensures in
+    let rows = c.in_ok-rows.ensures in
+    let limits = c.in_ok-limits.ensures in
+    let amounts = c.in_ok-amounts.ensures in
+    let filled = c.in_ok-filled.ensures in
+    let short = few c.args.table.now c.in_ok-listings.listings c.in_ok-listings.ensures in
     let none = accounts.items in
-    let kept = kept_none (opening_refusal (vec_items c.in-ok-accounts.accounts) ls) (vec_items c.in-ok-rows.rows) rows.items in
-    let told = none_placed (vec_items c.in-ok-accounts.accounts) ls n (vec_items c.in-ok-amounts.amounts) no_amount (amount_in (vec_items c.in-ok-rows.rows)) none in
-    let marked = none_placed (vec_items c.in-ok-accounts.accounts) ls n (vec_items c.in-ok-filled.filled) false (is_opened (vec_items c.in-ok-rows.rows)) none in
-    let within = all_within (vec_items c.in-ok-accounts.accounts) ls n (vec_items c.in-ok-amounts.amounts) (vec_items c.in-ok-rows.rows) told kept in
-    (short, (omega (arith, accounts.len), (omega (arith, rows.len), (omega (arith, limits.len), (accounts.capacity, (rows.capacity, (limits.capacity, (omega (arith, amounts.len, c.len-places.ensures), (omega (arith, filled.len, c.len-places.ensures), (ap are_apart none, (kept_none account_refusal _ none, (kept, (kept_none (limit_refusal ls) _ limits.items, (told, (marked, (within, (blank_all _ _ _ _ (amounts.items-if-clones-equal (λ y e. e)), (blank_all _ _ _ _ (filled.items-if-clones-equal (λ y e. e)), tt))))))))))))))))))
+    let kept = kept_none (opening_refusal (vec_items c.in_ok-accounts.accounts) ls) (vec_items c.in_ok-rows.rows) rows.items in
+    let told = none_placed (vec_items c.in_ok-accounts.accounts) ls n (vec_items c.in_ok-amounts.amounts) no_amount (amount_in (vec_items c.in_ok-rows.rows)) none in
+    let marked = none_placed (vec_items c.in_ok-accounts.accounts) ls n (vec_items c.in_ok-filled.filled) false (is_opened (vec_items c.in_ok-rows.rows)) none in
+    let within = all_within (vec_items c.in_ok-accounts.accounts) ls n (vec_items c.in_ok-amounts.amounts) (vec_items c.in_ok-rows.rows) told kept in
+    (short, (omega (arith, accounts.len), (omega (arith, rows.len), (omega (arith, limits.len), (accounts.capacity, (rows.capacity, (limits.capacity, (omega (arith, amounts.len, c.len-places.ensures), (omega (arith, filled.len, c.len-places.ensures), (ap are_apart none, (kept_none account_refusal _ none, (kept, (kept_none (limit_refusal ls) _ limits.items, (told, (marked, (within, (blank_all _ _ _ _ (amounts.items_if_clones_equal (λ y e. e)), (blank_all _ _ _ _ (filled.items_if_clones_equal (λ y e. e)), tt))))))))))))))))))

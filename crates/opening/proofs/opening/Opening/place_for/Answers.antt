@@ -27,30 +27,30 @@ opened s r p b known at low is =
     let lt : p < length (vec_items s.filled) = omega (arith, s.filled_long, s.filled.ok.0) in
     get_or_read (vec_items s.filled) p b lt is false ∙ ap (λ i. get_or (vec_items s.filled) i false) at ∙ s.marked r.account r.contract known
 
-pub overflow-mul-place : goal.overflow-mul-place
-overflow-mul-place c = omega (arith, (placed c.args.self.now c.args.row _ _ _ c.in-Some-place-of-account.ensures c.in-Some.ensures c.len.ensures).2, c.args.self.now.listings_few)
+pub overflow_mul-place : goal.overflow_mul-place
+overflow_mul-place c = omega (arith, (placed c.args.self.now c.args.row _ _ _ c.in-Some-place_of_account.ensures c.in-Some.ensures c.len.ensures).2, c.args.self.now.listings_few)
 
-pub overflow-add-place : goal.overflow-add-place
-overflow-add-place c = omega (arith, (placed c.args.self.now c.args.row _ _ _ c.in-Some-place-of-account.ensures c.in-Some.ensures c.len.ensures).2, c.args.self.now.listings_few)
+pub overflow_add-place : goal.overflow_add-place
+overflow_add-place c = omega (arith, (placed c.args.self.now c.args.row _ _ _ c.in-Some-place_of_account.ensures c.in-Some.ensures c.len.ensures).2, c.args.self.now.listings_few)
 
 pub index-requires : goal.index-requires
-index-requires c = omega (arith, (placed c.args.self.now c.args.row _ _ _ c.in-Some-place-of-account.ensures c.in-Some.ensures c.len.ensures).2, c.args.self.now.filled_long)
+index-requires c = omega (arith, (placed c.args.self.now c.args.row _ _ _ c.in-Some-place_of_account.ensures c.in-Some.ensures c.len.ensures).2, c.args.self.now.filled_long)
 
 pub returns-then-index : goal.returns-then-index
 returns-then-index c =
     let s = c.args.self.now in
     let r = c.args.row in
-    let at = placed s r _ _ _ c.in-Some-place-of-account.ensures c.in-Some.ensures c.len.ensures in
-    let range = and_from (row_within r) (suits_type (vec_items s.listings) r) (sym c.if-not-is-within.ensures) (sym c.if-not-suits-type.ensures) in
+    let at = placed s r _ _ _ c.in-Some-place_of_account.ensures c.in-Some.ensures c.len.ensures in
+    let range = and_from (row_within r) (suits_type (vec_items s.listings) r) (sym c.if-not-is_within.ensures) (sym c.if-not-suits_type.ensures) in
     let again = sym (opened s r _ _ at.0 at.1 at.2 c.index.ensures) ∙ c.if-index.true in
     ap (place_by _) (sym (again_lowest _ _ _ _ (not_from_true _ range) (not_from_true _ (and_from _ _ at.0.0 at.0.1)) again))
 
-pub returns-then-len-ge-MOST-ROWS : goal.returns-then-len-ge-MOST-ROWS
-returns-then-len-ge-MOST-ROWS c =
+pub returns-then-len-ge-MOST_ROWS : goal.returns-then-len-ge-MOST_ROWS
+returns-then-len-ge-MOST_ROWS c =
     let s = c.args.self.now in
     let r = c.args.row in
-    let at = placed s r _ _ _ c.in-Some-place-of-account.ensures c.in-Some.ensures c.len.ensures in
-    let range = and_from (row_within r) (suits_type (vec_items s.listings) r) (sym c.if-not-is-within.ensures) (sym c.if-not-suits-type.ensures) in
+    let at = placed s r _ _ _ c.in-Some-place_of_account.ensures c.in-Some.ensures c.len.ensures in
+    let range = and_from (row_within r) (suits_type (vec_items s.listings) r) (sym c.if-not-is_within.ensures) (sym c.if-not-suits_type.ensures) in
     let fresh = sym (opened s r _ _ at.0 at.1 at.2 c.index.ensures) ∙ c.if-index.false in
     let full : leb 4096 (length (vec_items s.rows)) ≡ true = le-leb _ _ (omega (arith, c.len-2.ensures, s.rows.ok.0)) in
     ap (place_by _) (sym (full_lowest _ _ _ _ (not_from_true _ range) (not_from_true _ (and_from _ _ at.0.0 at.0.1)) fresh full))
@@ -59,8 +59,8 @@ pub returns : goal.returns
 returns c =
     let s = c.args.self.now in
     let r = c.args.row in
-    let at = placed s r _ _ _ c.in-Some-place-of-account.ensures c.in-Some.ensures c.len.ensures in
-    let range = and_from (row_within r) (suits_type (vec_items s.listings) r) (sym c.if-not-is-within.ensures) (sym c.if-not-suits-type.ensures) in
+    let at = placed s r _ _ _ c.in-Some-place_of_account.ensures c.in-Some.ensures c.len.ensures in
+    let range = and_from (row_within r) (suits_type (vec_items s.listings) r) (sym c.if-not-is_within.ensures) (sym c.if-not-suits_type.ensures) in
     let fresh = sym (opened s r _ _ at.0 at.1 at.2 c.index.ensures) ∙ c.if-index.false in
     let few : leb 4096 (length (vec_items s.rows)) ≡ false = lt-leb _ _ (omega (arith, c.len-2.ensures, s.rows.ok.0)) in
     ap Ok at.1 ∙ ap (place_by _) (sym (none_lowest _ _ _ _ (not_from_true _ range) (not_from_true _ (and_from _ _ at.0.0 at.0.1)) fresh few))

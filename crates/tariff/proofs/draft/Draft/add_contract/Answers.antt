@@ -8,15 +8,15 @@ use Rattle.tariff.proofs.Drafts.{keeps}
 use Rattle.tariff.proofs.Keeping.{BothKeep, keep_either, keeps_prices, with_prices}
 use Rattle.tariff.proofs.draft.Draft.add_contract.Goals as goal
 
-pub invariant-of-self : goal.invariant-of-self
-invariant-of-self g c =
+pub invariant_of-self : goal.invariant_of-self
+invariant_of-self g c =
     let s = c.args.self.now in
     let t = table_of s.contracts in
     let x = said_in c.args.terms in
     let p = c.args.prices in
-    let r = c.add-with-prices.ensures in
-    let after = with_prices t (table_of c.add-with-prices.new.contracts) (said_of s) (λ d. map (rated d) (vec_items s.risks)) refl x p (vec_items c.add-with-prices.new.rows) c.add-with-prices.result r.table r.rows in
-    let k = subst BothKeep (sym after) (keep_either c.add-with-prices.result (prices_refusal t x p) (plus_contract t x, plus_prices (said_of s) p) (t, said_of s) r.answer (keeps s) (keeps_prices t (said_of s) x p (keeps s))) in
+    let r = c.add_with_prices.ensures in
+    let after = with_prices t (table_of c.add_with_prices.new.contracts) (said_of s) (λ d. map (rated d) (vec_items s.risks)) refl x p (vec_items c.add_with_prices.new.rows) c.add_with_prices.result r.table r.rows in
+    let k = subst BothKeep (sym after) (keep_either c.add_with_prices.result (prices_refusal t x p) (plus_contract t x, plus_prices (said_of s) p) (t, said_of s) r.answer (keeps s) (keeps_prices t (said_of s) x p (keeps s))) in
     let cap = r.room in
     let room = s.prices_room in
-    (s.spots_room, (omega arith, (s.risks_room, (s.ranges_room, (s.credits_room, (k.spots_each, (k.spots_hold, (k.prices_each, (k.all_prices_hold, (k.risks_kept, (k.ranges_kept, (k.credits_kept, tt))))))))))))
+    record { spots_room = s.spots_room; prices_room = omega arith; risks_room = s.risks_room; ranges_room = s.ranges_room; credits_room = s.credits_room; spots_each = k.spots_each; spots_hold = k.spots_hold; prices_each = k.prices_each; prices_hold = k.all_prices_hold; risks_kept = k.risks_kept; ranges_kept = k.ranges_kept; credits_kept = k.credits_kept }

@@ -8,15 +8,15 @@ use Rattle.tariff.proofs.Drafts.{keeps}
 use Rattle.tariff.proofs.Keeping.{BothKeep, keep_either, keeps_spot, with_spot}
 use Rattle.tariff.proofs.draft.Draft.add_instrument.Goals as goal
 
-pub invariant-of-self : goal.invariant-of-self
-invariant-of-self g c =
+pub invariant_of-self : goal.invariant_of-self
+invariant_of-self g c =
     let s = c.args.self.now in
     let t = table_of s.contracts in
     let i = instr c.args.instrument in
     let x = to_z w32 (of_z w32 c.args.spot) in
-    let r = c.add-with-spot.ensures in
-    let after = with_spot t (table_of c.add-with-spot.new.contracts) (said_of s) (λ d. map (rated d) (vec_items s.risks)) refl i x (vec_items c.add-with-spot.new.spots) c.add-with-spot.result r.table r.spots in
-    let k = subst BothKeep (sym after) (keep_either c.add-with-spot.result (spot_refusal t i.number x) (plus_instrument t i, plus_spot (said_of s) x) (t, said_of s) r.answer (keeps s) (keeps_spot t (said_of s) i x (keeps s))) in
+    let r = c.add_with_spot.ensures in
+    let after = with_spot t (table_of c.add_with_spot.new.contracts) (said_of s) (λ d. map (rated d) (vec_items s.risks)) refl i x (vec_items c.add_with_spot.new.spots) c.add_with_spot.result r.table r.spots in
+    let k = subst BothKeep (sym after) (keep_either c.add_with_spot.result (spot_refusal t i.number x) (plus_instrument t i, plus_spot (said_of s) x) (t, said_of s) r.answer (keeps s) (keeps_spot t (said_of s) i x (keeps s))) in
     let cap = r.room in
     let room = s.spots_room in
-    (omega arith, (s.prices_room, (s.risks_room, (s.ranges_room, (s.credits_room, (k.spots_each, (k.spots_hold, (k.prices_each, (k.all_prices_hold, (k.risks_kept, (k.ranges_kept, (k.credits_kept, tt))))))))))))
+    record { spots_room = omega arith; prices_room = s.prices_room; risks_room = s.risks_room; ranges_room = s.ranges_room; credits_room = s.credits_room; spots_each = k.spots_each; spots_hold = k.spots_hold; prices_each = k.prices_each; prices_hold = k.all_prices_hold; risks_kept = k.risks_kept; ranges_kept = k.ranges_kept; credits_kept = k.credits_kept }

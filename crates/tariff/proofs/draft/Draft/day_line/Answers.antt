@@ -5,16 +5,16 @@ use Rattle.tariff.specs.Rules.{line_in}
 use Rattle.tariff.proofs.Naming.{lines_day, line_there, line_absent}
 use Rattle.tariff.proofs.draft.Draft.day_line.Goals as goal
 
-pub returns-then-has-day : goal.returns-then-has-day
-returns-then-has-day g c =
+pub returns-then-has_day : goal.returns-then-has_day
+returns-then-has_day g c =
     let t = table_of c.args.self.now.contracts in
     let u = c.args.instrument in
-    let there = line_there t (day u (t.date + c.from.result)) (lines_day t u (t.date + c.from.result) ∙ sym c.if-has-day.ensures) in
+    let there = line_there t (day u (t.date + c.from.result)) (lines_day t u (t.date + c.from.result) ∙ sym c.if-has_day.ensures) in
     there ∙ ap (λ (k : ℕ). line_in t (day u (t.date + k))) c.from.ensures
 
-pub returns-else-has-day : goal.returns-else-has-day
-returns-else-has-day g c =
+pub returns-else-has_day : goal.returns-else-has_day
+returns-else-has_day g c =
     let t = table_of c.args.self.now.contracts in
     let u = c.args.instrument in
-    let absent = line_absent t (day u (t.date + c.from.result)) (lines_day t u (t.date + c.from.result) ∙ sym c.if-has-day.ensures) in
+    let absent = line_absent t (day u (t.date + c.from.result)) (lines_day t u (t.date + c.from.result) ∙ sym c.if-has_day.ensures) in
     absent ∙ ap (λ (k : ℕ). line_in t (day u (t.date + k))) c.from.ensures

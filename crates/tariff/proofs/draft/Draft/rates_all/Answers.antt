@@ -13,18 +13,18 @@ use Rattle.tariff.proofs.draft.Draft.rates_all.Goals as goal
 abbrev rated_all : {P : Type 0} → Draft P → List Line → Bool
 rated_all d ls = all (has_risk (said_of d).risks) (map (seen d.contracts.date.number) ls)
 
-pub returns-then-is-none : goal.returns-then-is-none
-returns-then-is-none g c =
+pub returns-then-is_none : goal.returns-then-is_none
+returns-then-is_none g c =
     let d = c.args.self.now in
     let x = c.line-item.result in
-    let lacks = sym (ap is_some c.risk-of.ensures) ∙ c.if-is-none.ensures in
+    let lacks = sym (ap is_some c.risk_of.ensures) ∙ c.if-is_none.ensures in
     sym (at_place (rated_all d) c.args.lines.now c.loop-line.line-index x x c.loop-line-test.true (sym c.line-item.is) ∙ and_left _ _ lacks) ∙ c.loop-line.invariant
 
 pub loop-line-preserved : goal.loop-line-preserved
 loop-line-preserved g c =
     let d = c.args.self.now in
     let x = c.line-item.result in
-    let has = sym (ap is_some c.risk-of.ensures) ∙ c.if-is-none.ensures in
+    let has = sym (ap is_some c.risk_of.ensures) ∙ c.if-is_none.ensures in
     sym (at_place (rated_all d) c.args.lines.now c.loop-line.line-index x x c.loop-line-test.true (sym c.line-item.is) ∙ true_and _ _ has) ∙ c.loop-line.invariant
 
 pub returns : goal.returns

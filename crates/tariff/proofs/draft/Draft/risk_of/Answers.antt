@@ -12,17 +12,17 @@ use Rattle.tariff.proofs.draft.Draft.risk_of.Goals as goal
 abbrev in' : ℕ → Line → List RiskLine → Option Risk
 in' date l rs = risk_in (map (rated date) rs) (seen date l)
 
-pub returns-then-is-same-line : goal.returns-then-is-same-line
-returns-then-is-same-line g c =
+pub returns-then-is_same_line : goal.returns-then-is_same_line
+returns-then-is_same_line g c =
     let s = c.args.self.now in
     let date = s.contracts.date.number in
-    sym (item_at (in' date c.args.line) c.deref-r-items.result.now (vec_items s.risks) c.loop-r.r-index c.deref-r-items.ensures.value c.r-item.result _ c.loop-r-test.true c.r-item.is ∙ cond-true _ _ _ (sym (c.if-is-same-line.ensures date))) ∙ c.loop-r.invariant
+    sym (item_at (in' date c.args.line) c.deref-r-items.result.now (vec_items s.risks) c.loop-r.r-index c.deref-r-items.ensures.value c.r-item.result _ c.loop-r-test.true c.r-item.is ∙ cond-true _ _ _ (sym (c.if-is_same_line.ensures date))) ∙ c.loop-r.invariant
 
 pub loop-r-preserved : goal.loop-r-preserved
 loop-r-preserved g c =
     let s = c.args.self.now in
     let date = s.contracts.date.number in
-    sym (item_at (in' date c.args.line) c.deref-r-items.result.now (vec_items s.risks) c.loop-r.r-index c.deref-r-items.ensures.value c.r-item.result _ c.loop-r-test.true c.r-item.is ∙ cond-false _ _ _ (sym (c.if-is-same-line.ensures date))) ∙ c.loop-r.invariant
+    sym (item_at (in' date c.args.line) c.deref-r-items.result.now (vec_items s.risks) c.loop-r.r-index c.deref-r-items.ensures.value c.r-item.result _ c.loop-r-test.true c.r-item.is ∙ cond-false _ _ _ (sym (c.if-is_same_line.ensures date))) ∙ c.loop-r.invariant
 
 pub returns : goal.returns
 returns g c =
