@@ -10,7 +10,7 @@ use Rattle.limits.proofs.layer.ConcentrationLimit.entry_for.Goals as goal
 pub returns-in-Cancel : goal.returns-in-Cancel
 returns-in-Cancel g c =
     let s = g.B.Book.state c.args.self.now.below.now in
-    let shown = c.unwrap-or.ensures ∙ ap (λ (o : Option Entry). unwrap_or o blank) c.entry.ensures.value in
+    let shown = c.unwrap_or.ensures ∙ ap (λ (o : Option Entry). unwrap_or o blank) c.entry.ensures.value in
     elim c.in-Cancel.is [
       | inl e ↦ shown ∙ cancel_entry s c.in-Cancel.number (subst (λ (x : Call). is_ok (answer s x) ≡ true) e c.requires) ∙ ap (entry_for s) (sym e)
       | inr p ↦ shown ∙ transfer_entry s c.in-Cancel.number p.0 (subst (λ (x : Call). is_ok (answer s x) ≡ true) p.1 c.requires) ∙ ap (entry_for s) (sym p.1)

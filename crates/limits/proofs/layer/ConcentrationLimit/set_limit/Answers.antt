@@ -12,7 +12,7 @@ pub returns-in-Some : goal.returns-in-Some
 returns-in-Some g c =
     let k = c.args.limit.contract in
     let xs = (g.B.Holdings.holding c.args.self.now.below.now).listings in
-    let there = sym (ap (place_of k) c.listings.ensures) ∙ sym c.place-of.ensures ∙ c.in-Some.is in
+    let there = sym (ap (place_of k) c.listings.ensures) ∙ sym c.place_of.ensures ∙ c.in-Some.is in
     let ls = vec_items c.args.self.now.table.limits in
     record {
       layer = layer_ext g.S.Summing.scope _ _ (ap (take (length xs)) c.set.ensures ∙ set_at k xs ls c.in-Some.place (Some c.args.limit.most) there);
@@ -20,11 +20,11 @@ returns-in-Some g c =
       lender = refl;
     }
 
-pub returns-in-default : goal.returns-in-default
-returns-in-default g c =
+pub returns-in_default : goal.returns-in_default
+returns-in_default g c =
     let k = c.args.limit.contract in
     let xs = (g.B.Holdings.holding c.args.self.now.below.now).listings in
-    let none = sym (ap (place_of k) c.listings.ensures) ∙ sym c.place-of.ensures ∙ c.in-default.is in
+    let none = sym (ap (place_of k) c.listings.ensures) ∙ sym c.place_of.ensures ∙ c.in_default.is in
     let ls = vec_items c.args.self.now.table.limits in
     record {
       layer = layer_ext g.S.Summing.scope _ _ (set_none k xs ls (Some c.args.limit.most) none);

@@ -17,7 +17,7 @@ by_agent w a xs ys o r scope same found is =
     ∙ ap (λ (v : Scope). sum_of v a xs) (sym scope)
 
 pub returns-in-Some : goal.returns-in-Some
-returns-in-Some g c = by_agent _ c.args.account _ c.accounts.result.now c.account-of.result _ (sym c.in-Agents.ensures) c.accounts.ensures c.account-of.ensures c.in-Some.is
+returns-in-Some g c = by_agent _ c.args.account _ c.accounts.result.now c.account_of.result _ (sym c.in-Agents.ensures) c.accounts.ensures c.account_of.ensures c.in-Some.is
 
 pub returns-in-None : goal.returns-in-None
-returns-in-None g c = by_agent _ c.args.account _ c.accounts.result.now c.account-of.result _ (sym c.in-Agents.ensures) c.accounts.ensures c.account-of.ensures c.in-None.is
+returns-in-None g c = by_agent _ c.args.account _ c.accounts.result.now c.account_of.result _ (sym c.in-Agents.ensures) c.accounts.ensures c.account_of.ensures c.in-None.is

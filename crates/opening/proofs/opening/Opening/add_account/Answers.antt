@@ -35,4 +35,4 @@ invariant_of-self c =
     let P : List Account → Type 0 = λ l. (are_apart l ≡ true) × Kept account_refusal l × Kept (opening_refusal l ls) rs × ByPlace l ls n (vec_items s.amounts) no_amount (amount_in rs) × ByPlace l ls n (vec_items s.filled) false (is_opened rs) × AllWithin l ls n (vec_items s.amounts) in
     let all : P (vec_items c.push_reserved.new.self) = subst P (sym c.push_reserved.ensures.items) (apart_more xs x s.apart fresh, kept_more account_refusal xs x s.accounts_kept refused, rows, told, marked, within) in
     let more : vec_len s.accounts * n ≤ vec_len c.push_reserved.new.self * n = omega (arith, add-mul (vec_len s.accounts) 1 n, ap (λ m. m * n) longer) in
-    (s.listings_few, (omega arith, (s.rows_few, (s.limits_few, (omega arith, (s.rows_room, (s.limits_room, (s.amounts_long, (s.filled_long, (all.0, (all.1, (all.2, (s.limits_kept, (all.3, (all.4, (all.5, (blank_later _ _ _ _ more s.amounts_blank, (blank_later _ _ _ _ more s.filled_blank, tt))))))))))))))))))
+    record { listings_few = s.listings_few; accounts_few = omega arith; rows_few = s.rows_few; limits_few = s.limits_few; accounts_room = omega arith; rows_room = s.rows_room; limits_room = s.limits_room; amounts_long = s.amounts_long; filled_long = s.filled_long; apart = all.0; accounts_kept = all.1; rows_kept = all.2; limits_kept = s.limits_kept; told = all.3; marked = all.4; within = all.5; amounts_blank = blank_later _ _ _ _ more s.amounts_blank; filled_blank = blank_later _ _ _ _ more s.filled_blank }

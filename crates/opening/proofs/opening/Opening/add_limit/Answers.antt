@@ -22,4 +22,4 @@ invariant_of-self c =
     let few : leb 128 (length ys) ≡ false = lt-leb 128 (length ys) (omega arith) in
     let taken : is_some (limit_refusal ls ys y) ≡ false = ap is_some (none_lowest _ _ _ _ (not_from_true _ range) (not_from_true _ known) fresh few) in
     let kept = subst (Kept (limit_refusal ls)) (sym c.push_reserved.ensures.items) (kept_more (limit_refusal ls) ys y s.limits_kept taken) in
-    (s.listings_few, (s.accounts_few, (s.rows_few, (omega arith, (s.accounts_room, (s.rows_room, (omega arith, (s.amounts_long, (s.filled_long, (s.apart, (s.accounts_kept, (s.rows_kept, (kept, (s.told, (s.marked, (s.within, (s.amounts_blank, (s.filled_blank, tt))))))))))))))))))
+    record { listings_few = s.listings_few; accounts_few = s.accounts_few; rows_few = s.rows_few; limits_few = omega arith; accounts_room = s.accounts_room; rows_room = s.rows_room; limits_room = omega arith; amounts_long = s.amounts_long; filled_long = s.filled_long; apart = s.apart; accounts_kept = s.accounts_kept; rows_kept = s.rows_kept; limits_kept = kept; told = s.told; marked = s.marked; within = s.within; amounts_blank = s.amounts_blank; filled_blank = s.filled_blank }

@@ -91,7 +91,7 @@ invariant_of-self c =
     let so = ready s r p c.in_ok-place.ensures in
     let all = added s r p (vec_items c.push_reserved.new.self) so c.push_reserved.ensures.items in
     let few : vec_len c.push_reserved.new.self ≤ 4096 = omega (arith, so.is.few, s.rows.ok.0, c.push_reserved.ensures.len) in
-    (s.listings_few, (s.accounts_few, (few, (s.limits_few, (s.accounts_room, (omega (arith, s.rows_room, c.push_reserved.ensures.capacity), (s.limits_room, (s.amounts_long, (s.filled_long, (s.apart, (s.accounts_kept, (all.0, (s.limits_kept, (all.1, (all.2, (all.3, (blank_set _ p _ _ _ so.low s.amounts_blank, (blank_set _ p _ _ _ so.low s.filled_blank, tt))))))))))))))))))
+    record { listings_few = s.listings_few; accounts_few = s.accounts_few; rows_few = few; limits_few = s.limits_few; accounts_room = s.accounts_room; rows_room = omega (arith, s.rows_room, c.push_reserved.ensures.capacity); limits_room = s.limits_room; amounts_long = s.amounts_long; filled_long = s.filled_long; apart = s.apart; accounts_kept = s.accounts_kept; rows_kept = all.0; limits_kept = s.limits_kept; told = all.1; marked = all.2; within = all.3; amounts_blank = blank_set _ p _ _ _ so.low s.amounts_blank; filled_blank = blank_set _ p _ _ _ so.low s.filled_blank }
 
 pub returns : goal.returns
 returns c =

@@ -34,4 +34,4 @@ invariant_of-result g c =
     let told = none_placed (vec_items c.in_ok-accounts.accounts) ls n (vec_items c.in_ok-amounts.amounts) no_amount (amount_in (vec_items c.in_ok-rows.rows)) none in
     let marked = none_placed (vec_items c.in_ok-accounts.accounts) ls n (vec_items c.in_ok-filled.filled) false (is_opened (vec_items c.in_ok-rows.rows)) none in
     let within = all_within (vec_items c.in_ok-accounts.accounts) ls n (vec_items c.in_ok-amounts.amounts) (vec_items c.in_ok-rows.rows) told kept in
-    (short, (omega (arith, accounts.len), (omega (arith, rows.len), (omega (arith, limits.len), (accounts.capacity, (rows.capacity, (limits.capacity, (omega (arith, amounts.len, c.len-places.ensures), (omega (arith, filled.len, c.len-places.ensures), (ap are_apart none, (kept_none account_refusal _ none, (kept, (kept_none (limit_refusal ls) _ limits.items, (told, (marked, (within, (blank_all _ _ _ _ (amounts.items_if_clones_equal (λ y e. e)), (blank_all _ _ _ _ (filled.items_if_clones_equal (λ y e. e)), tt))))))))))))))))))
+    record { listings_few = short; accounts_few = omega (arith, accounts.len); rows_few = omega (arith, rows.len); limits_few = omega (arith, limits.len); accounts_room = accounts.capacity; rows_room = rows.capacity; limits_room = limits.capacity; amounts_long = omega (arith, amounts.len, c.len-places.ensures); filled_long = omega (arith, filled.len, c.len-places.ensures); apart = ap are_apart none; accounts_kept = kept_none account_refusal _ none; rows_kept = kept; limits_kept = kept_none (limit_refusal ls) _ limits.items; told = told; marked = marked; within = within; amounts_blank = blank_all _ _ _ _ (amounts.items_if_clones_equal (λ y e. e)); filled_blank = blank_all _ _ _ _ (filled.items_if_clones_equal (λ y e. e)) }
