@@ -29,7 +29,7 @@ impl Numbered for Listing {
 
 // The place of the first row with a number.
 pub(crate) fn place_of<T: Numbered>(rows: &[T], number: u16) -> Option<usize>
-    ensures { result ≡ place_from named number 0 rows.now }
+    ensures { result ≡ place_from T.named number 0 rows.now }
 {
     for i in 0..rows.len() {
         if rows[i].number() == number {

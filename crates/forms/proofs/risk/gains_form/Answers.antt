@@ -8,15 +8,15 @@ use Rattle.forms.proofs.risk.gains_form.Goals.{else-count-gt0-via-then-count-gt0
 pub returns-then-count-gt16 : goal.returns-then-count-gt16
 returns-then-count-gt16 c = too_many c.args.fields.now c.if-count-gt16.true
 
-pub returns-in-err-each : goal.returns-in-err-each
-returns-in-err-each c =
-    let p = err_from_is_err_and c.from-residual.result c.from-residual.ensures.1 in
-    rw (p.1, p.2) (read_stops c.loop-i.invariant _ _ c.loop-i-test.true c.in-err-each.ensures)
+pub returns-in_err-each : goal.returns-in_err-each
+returns-in_err-each c =
+    let p = err_from_is_err_and c.from_residual.result c.from_residual.ensures.1 in
+    rw (p.1, p.2) (read_stops c.loop-i.invariant _ _ c.loop-i-test.true c.in_err-each.ensures)
 
 pub loop-i-preserved : goal.loop-i-preserved
 loop-i-preserved c =
-    let fits : SFits w64 c.in-ok-each.field-0 = search rules in
-    simp to_z-of_z (read_more c.loop-i.invariant _ _ c.loop-i-test.true (omega arith) c.in-ok-each.ensures)
+    let fits : SFits w64 c.in_ok-each.field-0 = search rules in
+    simp to_z-of_z (read_more c.loop-i.invariant _ _ c.loop-i-test.true (omega arith) c.in_ok-each.ensures)
 
 pub returns-then-each-count-eq0 : goal.returns-then-each-count-eq0
 returns-then-each-count-eq0 c = last_gain_is_zero c.loop-i.invariant c.loop-i-test.false c.loop-i.auto.i-end c.if-count-gt16.false c.if-count-gt0.true (search rules) c.if-each-count-eq0.true

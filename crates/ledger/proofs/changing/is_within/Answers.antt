@@ -5,8 +5,8 @@ use Rattle.terms.specs.Ranges.{holds_in}
 use Rattle.terms.specs.declared.bounds.Bounds.TheVariants.{Position, TradedValue}
 use Rattle.ledger.proofs.changing.is_within.Goals as goal
 
-pub overflow-add-opening : goal.overflow-add-opening
-overflow-add-opening c =
+pub overflow_add-opening : goal.overflow_add-opening
+overflow_add-opening c =
     let o = c.args.opening.quantity in
     let t = c.args.traded.quantity in
     let fo : SFits w64 o = search rules in

@@ -8,7 +8,7 @@ use Rattle.ledger.proofs.book.TableBookBook.take.Goals as goal
 pub returns-in-Transfer : goal.returns-in-Transfer
 returns-in-Transfer c =
     record {
-      answer = c.in-ok-answer.ensures;
+      answer = c.in_ok-answer.ensures;
       state = c.pass.ensures.state ∙ ap (λ (x : Call). taken (state_of c.args.self.now) x) (sym c.in-Transfer.is);
       follows = follows_of c.pass.new.self;
       lent = ap (λ (n : ℕ). n ∷ []) c.pass.ensures.lender;

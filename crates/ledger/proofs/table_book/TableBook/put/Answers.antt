@@ -15,8 +15,8 @@ apply-requires c =
     let f = applies c.args.self.now (Enter c.args.trade) c.requires blank c.shift-shift.result refl c.shift-shift.ensures.value c.shift-shift.ensures.bound in
     record { small = f.small; bears = f.bears; apart = f.apart }
 
-pub invariant-of-self : goal.invariant-of-self
-invariant-of-self c =
+pub invariant_of-self : goal.invariant_of-self
+invariant_of-self c =
     let b = c.args.self.now in
     let call = Enter c.args.trade in
     let e = entered c.args.trade in
@@ -27,7 +27,7 @@ invariant-of-self c =
     let kept = c.apply.ensures.kept in
     let tied = tied_after b call c.requires blank c.shift-shift.result refl c.shift-shift.ensures.value js (b.used + 1) u kept c.apply.ensures.shifted (put_journal b e low) in
     let listed = listed_kept b.tables u (b.used + 1) js kept (listed_set (vec_items b.tables.accounts) (vec_items b.tables.listings) b.used (b.used + 1) b.used b.journal.now e b.listed here (omega (arith, low, b.long)) (λ i h ne. after i b.used h ne)) in
-    (length-set b.journal.now b.used e ∙ b.long, (omega (arith, low), (listed, ((λ a k h. ap (λ (x : Amount). x.quantity) (tied a k h)), ((λ a k h. ap (λ (x : Amount). x.value) (tied a k h)), tt)))))
+    record { long = length-set b.journal.now b.used e ∙ b.long; fits = omega (arith, low); listed = listed; quantities = (λ a k h. ap (λ (x : Amount). x.quantity) (tied a k h)); values = (λ a k h. ap (λ (x : Amount). x.value) (tied a k h)) }
   where
     after : (i n : ℕ) → i < n + 1 → (i ≡ n → ⊥) → i < n
     after i n h ne = omega arith

@@ -19,8 +19,8 @@ plus-requires c =
     let s = sizes_in t a k there.0 in
     subst (λ (y : Amount). amount_size y + amount_size c.args.by < 2 ^ 63) (sym x) (omega (arith, s.traded, c.requires.small))
 
-pub invariant-of-self : goal.invariant-of-self
-invariant-of-self c =
+pub invariant_of-self : goal.invariant_of-self
+invariant_of-self c =
     let t = c.args.self.now in
     let a = c.args.account in
     let k = c.args.contract in
@@ -34,4 +34,4 @@ invariant-of-self c =
     let low : place_of xs cs a k < length ts = omega (arith, c.in-Some.ensures.bound, t.sized, t.traded.ok.0, there.1) in
     let fits : trades_within (opening t a k) c.plus.result ≡ true = ap (trades_within (opening t a k)) new ∙ borne t a k c.args.by there.0 c.requires.bears in
     let within : CellsWithin xs cs os (set ts c.in-Some.at c.plus.result) = subst (λ i. CellsWithin xs cs os (set ts i c.plus.result)) (sym there.1) (within_write xs cs os ts a k c.plus.result t.within there.0 low fits) in
-    (t.few, (t.narrow, (t.opened, (t.sized, (t.apart, (within, tt))))))
+    record { few = t.few; narrow = t.narrow; opened = t.opened; sized = t.sized; apart = t.apart; within = within }

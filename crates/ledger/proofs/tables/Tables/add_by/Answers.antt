@@ -17,7 +17,7 @@ returns-in-Some c =
     let bears : bears_at t b d by ≡ true = sym (ap (λ (o : Option ℕ). bears_by t o d by) c.in-Some.is) ∙ c.requires.bears in
     let listed = listed_borne t b d by bears in
     let one = one_more xs cs (vec_items t.traded) b d by listed (place_low t b d listed) in
-    let written : Shifted xs cs (goes c.args.account d by) (vec_items t.traded) (vec_items c.add-at.new.self.traded) =
-    subst (λ (o : Option ℕ). Shifted xs cs (goes o d by) (vec_items t.traded) (vec_items c.add-at.new.self.traded)) (sym c.in-Some.is)
-    (subst (λ (us : List Amount). Shifted xs cs (goes (Rattle.std.specs.declared.option.Option.TheVariants.Some b) d by) (vec_items t.traded) us) (sym c.add-at.ensures.traded) one) in
-    record { shifted = written; kept = c.add-at.ensures.kept }
+    let written : Shifted xs cs (goes c.args.account d by) (vec_items t.traded) (vec_items c.add_at.new.self.traded) =
+    subst (λ (o : Option ℕ). Shifted xs cs (goes o d by) (vec_items t.traded) (vec_items c.add_at.new.self.traded)) (sym c.in-Some.is)
+    (subst (λ (us : List Amount). Shifted xs cs (goes (Rattle.std.specs.declared.option.Option.TheVariants.Some b) d by) (vec_items t.traded) us) (sym c.add_at.ensures.traded) one) in
+    record { shifted = written; kept = c.add_at.ensures.kept }

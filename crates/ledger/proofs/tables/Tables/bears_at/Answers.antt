@@ -8,8 +8,8 @@ use Rattle.ledger.proofs.Ranges.{plus_size}
 use Rattle.ledger.proofs.AtPlace.{read_opening, read_traded, sizes_in}
 use Rattle.ledger.proofs.tables.Tables.bears_at.Goals as goal
 
-pub is-within-requires : goal.is-within-requires
-is-within-requires c =
+pub is_within-requires : goal.is_within-requires
+is_within-requires c =
     let t = c.args.self.now in
     let a = c.args.account in
     let k = c.args.contract in

@@ -8,6 +8,6 @@ returns c =
     let s = c.args.self.now in
     let xs = vec_items s.listings in
     let a = c.args.contract in
-    let found = found_listing a xs _ _ c.place-of.ensures c.deref.ensures.value in
+    let found = found_listing a xs _ _ c.place_of.ensures c.deref.ensures.value in
     let n = s.listings.ok.0 in
     record { value = found; bound = found_below (is_listing a xs) (listing_place a xs) (vec_len s.listings) _ found (λ h. omega (arith, listing_within a xs h)) }

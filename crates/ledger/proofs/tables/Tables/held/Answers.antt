@@ -15,12 +15,12 @@ loop-row-init c = none_written _ _ refl
 pub loop-row-preserved : goal.loop-row-preserved
 loop-row-preserved c =
     let t = c.args.self.now in
-    let fits : SFits w64 c.net-at.result = search rules in
-    let same = to_z-of_z w64 c.net-at.result fits in
-    one_written _ _ c.loop-row.row _ c.loop-row.invariant (omega (arith, c.len-count.ensures, t.few, c.loop-row-test.true)) (same ∙ c.net-at.ensures.value) (subst (λ (y : ℤ). nat_abs y ≤ 10000) (sym same) c.net-at.ensures.bound)
+    let fits : SFits w64 c.net_at.result = search rules in
+    let same = to_z-of_z w64 c.net_at.result fits in
+    one_written _ _ c.loop-row.row _ c.loop-row.invariant (omega (arith, c.len-count.ensures, t.few, c.loop-row-test.true)) (same ∙ c.net_at.ensures.value) (subst (λ (y : ℤ). nat_abs y ≤ 10000) (sym same) c.net_at.ensures.bound)
 
-pub slice-bounds-total-end : goal.slice-bounds-total-end
-slice-bounds-total-end c =
+pub slice_bounds-total-end : goal.slice_bounds-total-end
+slice_bounds-total-end c =
     let t = c.args.self.now in
     let long = c.loop-row.invariant.long in
     let within : c.len-count.result ≤ length c.loop-row.nets = omega (arith, c.len-count.ensures, t.few, long) in

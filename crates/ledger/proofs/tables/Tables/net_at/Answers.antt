@@ -17,8 +17,8 @@ use Rattle.ledger.proofs.tables.Tables.net_at.Goals as goal
 at : (c : goal.After-len) → Spot c.args.self.now c.args.row c.args.contract (c.args.row * c.len.result + c.args.column)
 at c = spot c.args.self.now c.args.row c.args.column c.args.contract c.len.result c.requires.row c.requires.listed c.requires.column c.len.ensures
 
-pub overflow-add-at : goal.overflow-add-at
-overflow-add-at c = let s = at c in search (rules, s.low, s.few)
+pub overflow_add-at : goal.overflow_add-at
+overflow_add-at c = let s = at c in search (rules, s.low, s.few)
 
 pub index-requires-then-has : goal.index-requires-then-has
 index-requires-then-has c =
@@ -41,8 +41,8 @@ quantities t row k i s x y p q =
     let e : x.quantity +ℤ y.quantity ≡ net_of t a k = ap₂ (λ (u v : Amount). u.quantity +ℤ v.quantity) o r in
     (e, subst (λ (m : ℤ). nat_abs m ≤ 10000) (sym e) z.net)
 
-pub overflow-add-result : goal.overflow-add-result
-overflow-add-result c =
+pub overflow_add-result : goal.overflow_add-result
+overflow_add-result c =
     let s = spot c.args.self.now c.args.row c.args.column c.args.contract c.len.result c.requires.row c.requires.listed c.requires.column c.len.ensures in
     let x = c.index-then-has.result.now in
     let y = c.index-then-has-2.result.now in

@@ -12,11 +12,11 @@ returns c =
     let cs = vec_items s.listings in
     let a = c.args.account in
     let k = c.args.contract in
-    let row = c.in-ok-row.ensures in
-    let column = c.in-ok-column.ensures in
-    let r = is_there (is_account a xs) (account_place a xs) c.in-ok-row.row row.value in
-    let q = is_there (is_listing k cs) (listing_place k cs) c.in-ok-column.column column.value in
+    let row = c.in_ok-row.ensures in
+    let column = c.in_ok-column.ensures in
+    let r = is_there (is_account a xs) (account_place a xs) c.in_ok-row.row row.value in
+    let q = is_there (is_listing k cs) (listing_place k cs) c.in_ok-column.column column.value in
     let n : c.len.result ≡ length cs = c.len.ensures ∙ s.listings.ok.0 in
-    let here : c.in-ok-row.row * c.len.result + c.in-ok-column.column ≡ place_of xs cs a k = ap₂ (λ i j. i * j + c.in-ok-column.column) r.1 n ∙ ap (λ j. account_place a xs * length cs + j) q.1 in
+    let here : c.in_ok-row.row * c.len.result + c.in_ok-column.column ≡ place_of xs cs a k = ap₂ (λ i j. i * j + c.in_ok-column.column) r.1 n ∙ ap (λ j. account_place a xs * length cs + j) q.1 in
     let listed : is_account a xs && is_listing k cs ≡ true = ap₂ ◌&&◌ r.0 q.0 in
-    record { value = ap Some here ∙ sym (ap (λ (b : Bool). cond b (Some (place_of xs cs a k)) None) listed); bound = omega (arith, mul-add-lt c.in-ok-row.row (vec_len s.listings) c.in-ok-column.column 32 row.bound column.bound, ap (λ j. c.in-ok-row.row * j) c.len.ensures) }
+    record { value = ap Some here ∙ sym (ap (λ (b : Bool). cond b (Some (place_of xs cs a k)) None) listed); bound = omega (arith, mul-add-lt c.in_ok-row.row (vec_len s.listings) c.in_ok-column.column 32 row.bound column.bound, ap (λ j. c.in_ok-row.row * j) c.len.ensures) }

@@ -8,6 +8,6 @@ returns c =
     let s = c.args.self.now in
     let xs = vec_items s.accounts in
     let a = c.args.account in
-    let found = found_account a xs _ _ c.place-of.ensures c.deref.ensures.value in
+    let found = found_account a xs _ _ c.place_of.ensures c.deref.ensures.value in
     let n = s.accounts.ok.0 in
     record { value = found; bound = found_below (is_account a xs) (account_place a xs) 32 _ found (λ h. omega (arith, account_is_within a xs h, s.few)) }

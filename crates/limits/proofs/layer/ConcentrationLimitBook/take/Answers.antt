@@ -49,5 +49,5 @@ returns-in-None g c =
       answer = c.take.ensures.answer ∙ below ∙ may;
       state = passed_down w c.args.self.now.table s _ call c.take.result c.take.ensures.state other;
       follows = follows_layered _ _ _ c.take.ensures.follows;
-      lent = ap (λ (ns : List ℕ). c.args.self.now.below.name ∷ ns) c.take.ensures.lent;
+      lent = ap (λ (ns : List ℕ). c.args.self.now.below.ghost_name ∷ ns) c.take.ensures.lent;
     }
