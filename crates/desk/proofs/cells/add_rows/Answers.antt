@@ -11,8 +11,8 @@ use Rattle.desk.proofs.cells.add_rows.Goals as goal
 abbrev rows_at : State → ℕ → Listing → List Row
 rows_at s a y = option_to_list (row_of a y.number (cell_of s a y.number))
 
-pub row-for-requires : goal.row-for-requires
-row-for-requires g c =
+pub row_for-requires : goal.row_for-requires
+row_for-requires g c =
     record {
       follows = c.requires.follows;
       account = c.requires.account;
@@ -24,7 +24,7 @@ loop-listing-preserved g c =
     joined_at (rows_at (g.B.Book.state c.args.book.now) c.args.account) _ _ c.listings-listing-items.result.now c.loop-listing.listing-index c.loop-listing.invariant _ c.listing-item.result _
     c.loop-listing-test.true
     c.listing-item.is
-    (c.in-ok-add-row.ensures ∙ ap (λ (r : Option Row). vec_items c.loop-listing.rows ++ option_to_list r) c.row-for.ensures)
+    (c.in_ok-add_row.ensures ∙ ap (λ (r : Option Row). vec_items c.loop-listing.rows ++ option_to_list r) c.row_for.ensures)
 
 pub returns : goal.returns
 returns g c =

@@ -11,8 +11,8 @@ use Rattle.desk.proofs.cells.rows_of.Goals as goal
 abbrev rows_for : State → Account → List Row
 rows_for s x = rows_in s x.number s.listings
 
-pub add-rows-requires : goal.add-rows-requires
-add-rows-requires g c =
+pub add_rows-requires : goal.add_rows-requires
+add_rows-requires g c =
     record {
       follows = c.entries.ensures.follows;
       account = account_in _ _ c.loop-account.account-index nobody _ (c.accounts-account-items.ensures ∙ c.entries.ensures.follows.accounts) c.loop-account-test.true refl;
@@ -23,7 +23,7 @@ loop-account-preserved g c =
     joined_at (rows_for (g.B.Book.state c.args.book.now)) _ _ c.accounts-account-items.result.now c.loop-account.account-index c.loop-account.invariant nobody _ _
     c.loop-account-test.true
     refl
-    c.in-ok-add-rows.ensures
+    c.in_ok-add_rows.ensures
 
 pub returns : goal.returns
 returns g c =

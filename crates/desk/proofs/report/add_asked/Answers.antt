@@ -14,16 +14,16 @@ line_of p = line (asked_text p.0 p.1)
 
 pub loop-call-init : goal.loop-call-init
 loop-call-init c =
-    let first = ap (λ t. iter_rest (zip_first t)) c.into-iter-call-iterator.ensures.into-iter-gives ∙ ap iter_rest c.zip-call-items.ensures.first ∙ c.iter.ensures.rest in
-    let second = ap (λ t. iter_rest (zip_second t)) c.into-iter-call-iterator.ensures.into-iter-gives ∙ ap iter_rest c.zip-call-items.ensures.second ∙ c.iter-2.ensures.rest in
-    ap (λ (xs : List Call). string_bytes c.args.text.now ++ asked_lines (zip xs (iter_rest (zip_second c.into-iter-call-iterator.result)))) first
+    let first = ap (λ t. iter_rest (zip_first t)) c.into_iter-call-iterator.ensures.into_iter_gives ∙ ap iter_rest c.zip-call-items.ensures.first ∙ c.iter.ensures.rest in
+    let second = ap (λ t. iter_rest (zip_second t)) c.into_iter-call-iterator.ensures.into_iter_gives ∙ ap iter_rest c.zip-call-items.ensures.second ∙ c.iter-2.ensures.rest in
+    ap (λ (xs : List Call). string_bytes c.args.text.now ++ asked_lines (zip xs (iter_rest (zip_second c.into_iter-call-iterator.result)))) first
     ∙ ap (λ (ys : List (Result ℕ Refusal)). string_bytes c.args.text.now ++ asked_lines (zip c.args.calls.now ys)) second
 
 pub loop-call-preserved : goal.loop-call-preserved
 loop-call-preserved c =
     joined_next line_of _ _ (pairs-rest c.loop-call.call-iterator) (pairs-rest c.next.new.self) (c.in-Some.call.now, c.in-Some.answer.now) _ c.loop-call.invariant
     (pairs-rest-more _ _ _ _ c.in-Some.is c.next.ensures.steps)
-    c.in-ok-add-call.ensures
+    c.in_ok-add_call.ensures
 
 pub returns : goal.returns
 returns c = joined_last line_of _ _ (pairs-rest c.loop-call.call-iterator) c.loop-call.invariant (pairs-rest-all _ _ _ c.in-None.is c.next.ensures.steps)

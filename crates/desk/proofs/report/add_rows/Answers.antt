@@ -9,7 +9,7 @@ abbrev no_row : Row
 no_row = record { account = 0; contract = 0; cell = record { opening = no_amount; traded = no_amount } }
 
 pub loop-row-preserved : goal.loop-row-preserved
-loop-row-preserved c = joined_at (λ (x : Row). line (row_text x)) _ _ c.args.rows.now c.loop-row.row-index c.loop-row.invariant no_row _ _ c.loop-row-test.true refl c.in-ok-add-row.ensures
+loop-row-preserved c = joined_at (λ (x : Row). line (row_text x)) _ _ c.args.rows.now c.loop-row.row-index c.loop-row.invariant no_row _ _ c.loop-row-test.true refl c.in_ok-add_row.ensures
 
 pub returns : goal.returns
 returns c = joined_end (λ (x : Row). line (row_text x)) _ _ c.args.rows.now c.loop-row.row-index c.loop-row.invariant c.loop-row-test.false

@@ -17,10 +17,10 @@ rows_after items (Err e) s t u calls told left = tt
 
 pub returns : goal.returns
 returns c =
-    let driven = c.drive-under-limits.ensures in
+    let driven = c.drive_under_limits.ensures in
     record {
       answers = driven.answers;
-      rows = rows_after vec_items c.drive-under-limits.result _ _ (state_of c.args.book.now) c.args.calls.now driven.answers driven.state;
+      rows = rows_after vec_items c.drive_under_limits.result _ _ (state_of c.args.book.now) c.args.calls.now driven.answers driven.state;
       journal = driven.journal;
       lender = search rules;
     }

@@ -12,9 +12,9 @@ pub returns : goal.returns
 returns c =
     let s = c.args.self.now in
     let v = view_of s in
-    let call = c.in-ok-call.call in
+    let call = c.in_ok-call.call in
     record {
-      added = added (call_refusal (vec_items s.calls.rows) call) _ _ _ _ (ap (λ (f : Result Call Refusal). f then call_by v) (sym c.in-ok-call.ensures)) c.add.ensures.answer
+      added = added (call_refusal (vec_items s.calls.rows) call) _ _ _ _ (ap (λ (f : Result Call Refusal). f then call_by v) (sym c.in_ok-call.ensures)) c.add.ensures.answer
           (λ ok. ap (λ (cs : List Call). with_calls v cs) (taken _ _ _ _ c.add.ensures.rows ok));
       draft = refl;
       opening = refl;

@@ -14,10 +14,10 @@ pub returns : goal.returns
 returns c =
     let s = c.args.self.now in
     let v = view_of s in
-    let row = c.in-ok-credit.credit in
+    let row = c.in_ok-credit.credit in
     record {
-      added = added (credit_refusal (said_of s.draft).credits row) _ _ _ _ (ap (λ (f : Result Credit Refusal). f then credit_by v) (sym c.in-ok-credit.ensures)) c.add-credit.ensures.answer
-          (λ ok. same_contracts v _ _ _ _ c.add-credit.ensures.contracts (taken _ _ _ _ c.add-credit.ensures.said ok));
-      contracts = c.add-credit.ensures.contracts;
+      added = added (credit_refusal (said_of s.draft).credits row) _ _ _ _ (ap (λ (f : Result Credit Refusal). f then credit_by v) (sym c.in_ok-credit.ensures)) c.add_credit.ensures.answer
+          (λ ok. same_contracts v _ _ _ _ c.add_credit.ensures.contracts (taken _ _ _ _ c.add_credit.ensures.said ok));
+      contracts = c.add_credit.ensures.contracts;
       opening = refl;
     }

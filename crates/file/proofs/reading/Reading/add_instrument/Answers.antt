@@ -19,12 +19,12 @@ pub returns : goal.returns
 returns c =
     let s = c.args.self.now in
     let v = view_of s in
-    let row = c.in-ok-instrument.field-0 in
+    let row = c.in_ok-instrument.field-0 in
     let fits : SFits w32 row.spot = search rules in
-    let answer : c.add-instrument.result ≡ answer_by (spot_refusal (table_in s.draft) row.instrument.number row.spot) = simp to_z-of_z at c.add-instrument.ensures.answer in
-    let draft = simp to_z-of_z at c.add-instrument.ensures.draft in
+    let answer : c.add_instrument.result ≡ answer_by (spot_refusal (table_in s.draft) row.instrument.number row.spot) = simp to_z-of_z at c.add_instrument.ensures.answer in
+    let draft = simp to_z-of_z at c.add_instrument.ensures.draft in
     record {
-      added = added (spot_refusal (table_in s.draft) row.instrument.number row.spot) _ _ _ _ (ap (λ (f : Result InstrumentRow Refusal). f then instrument_by v) (sym c.in-ok-instrument.ensures)) answer
-          (λ ok. tariff_alike v _ _ _ _ (taken _ _ _ _ c.add-instrument.ensures.profiles ok) (taken _ _ _ _ draft ok));
+      added = added (spot_refusal (table_in s.draft) row.instrument.number row.spot) _ _ _ _ (ap (λ (f : Result InstrumentRow Refusal). f then instrument_by v) (sym c.in_ok-instrument.ensures)) answer
+          (λ ok. tariff_alike v _ _ _ _ (taken _ _ _ _ c.add_instrument.ensures.profiles ok) (taken _ _ _ _ draft ok));
       opening = refl;
     }

@@ -36,62 +36,62 @@ ready_of p q s t r e f h = where_taken r (Ready p t) (subst (λ (x : Section). R
 pub returns-in-Instruments : goal.returns-in-Instruments
 unfolding line_says
 returns-in-Instruments c = record {
-  added = line_of c.args.section Instruments (view_of c.args.self.now) (view_of c.add-instrument.new.self) (map see c.args.fields.now) c.add-instrument.result c.in-Instruments.is c.add-instrument.ensures.added;
-  ready = ready_of c.args.section Instruments c.args.self.now c.add-instrument.new.self c.add-instrument.result c.in-Instruments.is (still_fresh c.args.self.now c.add-instrument.new.self c.add-instrument.ensures.opening) c.requires;
+  added = line_of c.args.section Instruments (view_of c.args.self.now) (view_of c.add_instrument.new.self) (map see c.args.fields.now) c.add_instrument.result c.in-Instruments.is c.add_instrument.ensures.added;
+  ready = ready_of c.args.section Instruments c.args.self.now c.add_instrument.new.self c.add_instrument.result c.in-Instruments.is (still_fresh c.args.self.now c.add_instrument.new.self c.add_instrument.ensures.opening) c.requires;
 }
 
 pub returns-in-Contracts : goal.returns-in-Contracts
 unfolding line_says
 returns-in-Contracts c = record {
-  added = line_of c.args.section Contracts (view_of c.args.self.now) (view_of c.add-contract.new.self) (map see c.args.fields.now) c.add-contract.result c.in-Contracts.is c.add-contract.ensures.added;
-  ready = ready_of c.args.section Contracts c.args.self.now c.add-contract.new.self c.add-contract.result c.in-Contracts.is (still_fresh c.args.self.now c.add-contract.new.self c.add-contract.ensures.opening) c.requires;
+  added = line_of c.args.section Contracts (view_of c.args.self.now) (view_of c.add_contract.new.self) (map see c.args.fields.now) c.add_contract.result c.in-Contracts.is c.add_contract.ensures.added;
+  ready = ready_of c.args.section Contracts c.args.self.now c.add_contract.new.self c.add_contract.result c.in-Contracts.is (still_fresh c.args.self.now c.add_contract.new.self c.add_contract.ensures.opening) c.requires;
 }
 
 pub returns-in-Accounts : goal.returns-in-Accounts
 unfolding line_says
 returns-in-Accounts c = record {
-  added = line_of c.args.section Accounts (view_of c.args.self.now) (view_of c.add-account.new.self) (map see c.args.fields.now) c.add-account.result c.in-Accounts.is c.add-account.ensures.added;
-  ready = ready_of c.args.section Accounts c.args.self.now c.add-account.new.self c.add-account.result c.in-Accounts.is (still_listed c.args.self.now c.add-account.new.self c.add-account.ensures.listings c.add-account.ensures.date (ap (λ (d : Draft Load). d.contracts) c.add-account.ensures.draft)) c.requires;
+  added = line_of c.args.section Accounts (view_of c.args.self.now) (view_of c.add_account.new.self) (map see c.args.fields.now) c.add_account.result c.in-Accounts.is c.add_account.ensures.added;
+  ready = ready_of c.args.section Accounts c.args.self.now c.add_account.new.self c.add_account.result c.in-Accounts.is (still_listed c.args.self.now c.add_account.new.self c.add_account.ensures.listings c.add_account.ensures.date (ap (λ (d : Draft Load). d.contracts) c.add_account.ensures.draft)) c.requires;
 }
 
 pub returns-in-Openings : goal.returns-in-Openings
 unfolding line_says
 returns-in-Openings c = record {
-  added = line_of c.args.section Openings (view_of c.args.self.now) (view_of c.add-opening.new.self) (map see c.args.fields.now) c.add-opening.result c.in-Openings.is c.add-opening.ensures.added;
-  ready = ready_of c.args.section Openings c.args.self.now c.add-opening.new.self c.add-opening.result c.in-Openings.is (still_listed c.args.self.now c.add-opening.new.self c.add-opening.ensures.listings c.add-opening.ensures.date (ap (λ (d : Draft Load). d.contracts) c.add-opening.ensures.draft)) c.requires;
+  added = line_of c.args.section Openings (view_of c.args.self.now) (view_of c.add_opening.new.self) (map see c.args.fields.now) c.add_opening.result c.in-Openings.is c.add_opening.ensures.added;
+  ready = ready_of c.args.section Openings c.args.self.now c.add_opening.new.self c.add_opening.result c.in-Openings.is (still_listed c.args.self.now c.add_opening.new.self c.add_opening.ensures.listings c.add_opening.ensures.date (ap (λ (d : Draft Load). d.contracts) c.add_opening.ensures.draft)) c.requires;
 }
 
 pub returns-in-Limits : goal.returns-in-Limits
 unfolding line_says
 returns-in-Limits c = record {
-  added = line_of c.args.section Limits (view_of c.args.self.now) (view_of c.add-limit.new.self) (map see c.args.fields.now) c.add-limit.result c.in-Limits.is c.add-limit.ensures.added;
-  ready = ready_of c.args.section Limits c.args.self.now c.add-limit.new.self c.add-limit.result c.in-Limits.is (still_listed c.args.self.now c.add-limit.new.self c.add-limit.ensures.listings c.add-limit.ensures.date (ap (λ (d : Draft Load). d.contracts) c.add-limit.ensures.draft)) c.requires;
+  added = line_of c.args.section Limits (view_of c.args.self.now) (view_of c.add_limit.new.self) (map see c.args.fields.now) c.add_limit.result c.in-Limits.is c.add_limit.ensures.added;
+  ready = ready_of c.args.section Limits c.args.self.now c.add_limit.new.self c.add_limit.result c.in-Limits.is (still_listed c.args.self.now c.add_limit.new.self c.add_limit.ensures.listings c.add_limit.ensures.date (ap (λ (d : Draft Load). d.contracts) c.add_limit.ensures.draft)) c.requires;
 }
 
 pub returns-in-Risks : goal.returns-in-Risks
 unfolding line_says
 returns-in-Risks c = record {
-  added = line_of c.args.section Risks (view_of c.args.self.now) (view_of c.add-risk.new.self) (map see c.args.fields.now) c.add-risk.result c.in-Risks.is c.add-risk.ensures.added;
-  ready = ready_of c.args.section Risks c.args.self.now c.add-risk.new.self c.add-risk.result c.in-Risks.is (still_listed c.args.self.now c.add-risk.new.self (ap (λ (o : Opening). vec_items o.listings) c.add-risk.ensures.opening) (ap (λ (o : Opening). o.date.number) c.add-risk.ensures.opening) c.add-risk.ensures.contracts) c.requires;
+  added = line_of c.args.section Risks (view_of c.args.self.now) (view_of c.add_risk.new.self) (map see c.args.fields.now) c.add_risk.result c.in-Risks.is c.add_risk.ensures.added;
+  ready = ready_of c.args.section Risks c.args.self.now c.add_risk.new.self c.add_risk.result c.in-Risks.is (still_listed c.args.self.now c.add_risk.new.self (ap (λ (o : Opening). vec_items o.listings) c.add_risk.ensures.opening) (ap (λ (o : Opening). o.date.number) c.add_risk.ensures.opening) c.add_risk.ensures.contracts) c.requires;
 }
 
 pub returns-in-Ranges : goal.returns-in-Ranges
 unfolding line_says
 returns-in-Ranges c = record {
-  added = line_of c.args.section Ranges (view_of c.args.self.now) (view_of c.add-range.new.self) (map see c.args.fields.now) c.add-range.result c.in-Ranges.is c.add-range.ensures.added;
-  ready = ready_of c.args.section Ranges c.args.self.now c.add-range.new.self c.add-range.result c.in-Ranges.is (still_listed c.args.self.now c.add-range.new.self (ap (λ (o : Opening). vec_items o.listings) c.add-range.ensures.opening) (ap (λ (o : Opening). o.date.number) c.add-range.ensures.opening) c.add-range.ensures.contracts) c.requires;
+  added = line_of c.args.section Ranges (view_of c.args.self.now) (view_of c.add_range.new.self) (map see c.args.fields.now) c.add_range.result c.in-Ranges.is c.add_range.ensures.added;
+  ready = ready_of c.args.section Ranges c.args.self.now c.add_range.new.self c.add_range.result c.in-Ranges.is (still_listed c.args.self.now c.add_range.new.self (ap (λ (o : Opening). vec_items o.listings) c.add_range.ensures.opening) (ap (λ (o : Opening). o.date.number) c.add_range.ensures.opening) c.add_range.ensures.contracts) c.requires;
 }
 
 pub returns-in-Credits : goal.returns-in-Credits
 unfolding line_says
 returns-in-Credits c = record {
-  added = line_of c.args.section Credits (view_of c.args.self.now) (view_of c.add-credit.new.self) (map see c.args.fields.now) c.add-credit.result c.in-Credits.is c.add-credit.ensures.added;
-  ready = ready_of c.args.section Credits c.args.self.now c.add-credit.new.self c.add-credit.result c.in-Credits.is (still_listed c.args.self.now c.add-credit.new.self (ap (λ (o : Opening). vec_items o.listings) c.add-credit.ensures.opening) (ap (λ (o : Opening). o.date.number) c.add-credit.ensures.opening) c.add-credit.ensures.contracts) c.requires;
+  added = line_of c.args.section Credits (view_of c.args.self.now) (view_of c.add_credit.new.self) (map see c.args.fields.now) c.add_credit.result c.in-Credits.is c.add_credit.ensures.added;
+  ready = ready_of c.args.section Credits c.args.self.now c.add_credit.new.self c.add_credit.result c.in-Credits.is (still_listed c.args.self.now c.add_credit.new.self (ap (λ (o : Opening). vec_items o.listings) c.add_credit.ensures.opening) (ap (λ (o : Opening). o.date.number) c.add_credit.ensures.opening) c.add_credit.ensures.contracts) c.requires;
 }
 
 pub returns-in-Calls : goal.returns-in-Calls
 unfolding line_says
 returns-in-Calls c = record {
-  added = line_of c.args.section Calls (view_of c.args.self.now) (view_of c.add-call.new.self) (map see c.args.fields.now) c.add-call.result c.in-Calls.is c.add-call.ensures.added;
-  ready = ready_of c.args.section Calls c.args.self.now c.add-call.new.self c.add-call.result c.in-Calls.is (still_listed c.args.self.now c.add-call.new.self (ap (λ (o : Opening). vec_items o.listings) c.add-call.ensures.opening) (ap (λ (o : Opening). o.date.number) c.add-call.ensures.opening) (ap (λ (d : Draft Load). d.contracts) c.add-call.ensures.draft)) c.requires;
+  added = line_of c.args.section Calls (view_of c.args.self.now) (view_of c.add_call.new.self) (map see c.args.fields.now) c.add_call.result c.in-Calls.is c.add_call.ensures.added;
+  ready = ready_of c.args.section Calls c.args.self.now c.add_call.new.self c.add_call.result c.in-Calls.is (still_listed c.args.self.now c.add_call.new.self (ap (λ (o : Opening). vec_items o.listings) c.add_call.ensures.opening) (ap (λ (o : Opening). o.date.number) c.add_call.ensures.opening) (ap (λ (d : Draft Load). d.contracts) c.add_call.ensures.draft)) c.requires;
 }

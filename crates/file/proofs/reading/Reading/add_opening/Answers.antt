@@ -19,14 +19,14 @@ returns c =
     let s = c.args.self.now in
     let o = s.opening in
     let v = view_of s in
-    let row = c.in-ok-row.row in
-    let said = c.add-opening.ensures.said in
+    let row = c.in_ok-row.row in
+    let said = c.add_opening.ensures.said in
     record {
-      added = added (opening_refusal (vec_items o.accounts) (listings_of (table_in s.draft)) (vec_items o.rows) row) _ _ _ _ (ap (λ (f : Result Opened Refusal). f then opening_by v) (sym c.in-ok-row.ensures))
-          (c.add-opening.ensures.answer ∙ ap (λ (ls : List Listing). answer_by (opening_refusal (vec_items o.accounts) ls (vec_items o.rows) row)) c.requires.0)
+      added = added (opening_refusal (vec_items o.accounts) (listings_of (table_in s.draft)) (vec_items o.rows) row) _ _ _ _ (ap (λ (f : Result Opened Refusal). f then opening_by v) (sym c.in_ok-row.ensures))
+          (c.add_opening.ensures.answer ∙ ap (λ (ls : List Listing). answer_by (opening_refusal (vec_items o.accounts) ls (vec_items o.rows) row)) c.requires.0)
           (λ ok. let e = taken _ _ _ _ said ok in opened_alike v _ _ _ _ _ _ (ap (λ (x : Said). x.accounts) e) (ap (λ (x : Said). x.rows) e) (ap (λ (x : Said). x.limits) e));
-      listings = ap (λ (x : Said). x.listings) said ∙ either (is_ok c.add-opening.result) (opening_of o) row;
-      date = ap (λ (x : Said). x.date) said ∙ on_date (is_ok c.add-opening.result) (opening_of o) row;
+      listings = ap (λ (x : Said). x.listings) said ∙ either (is_ok c.add_opening.result) (opening_of o) row;
+      date = ap (λ (x : Said). x.date) said ∙ on_date (is_ok c.add_opening.result) (opening_of o) row;
       draft = refl;
     }
   where

@@ -15,10 +15,10 @@ pub returns : goal.returns
 returns c =
     let s = c.args.self.now in
     let v = view_of s in
-    let row = ranged c.in-ok-range.range in
+    let row = ranged c.in_ok-range.range in
     record {
-      added = added (range_refusal (said_of s.draft).ranges row) _ _ _ _ (ap (λ (f : Result Ranged Refusal). f then range_by v) (sym c.in-ok-range.ensures)) c.add-range.ensures.answer
-          (λ ok. same_contracts v _ _ _ _ c.add-range.ensures.contracts (taken _ _ _ _ c.add-range.ensures.said ok));
-      contracts = c.add-range.ensures.contracts;
+      added = added (range_refusal (said_of s.draft).ranges row) _ _ _ _ (ap (λ (f : Result Ranged Refusal). f then range_by v) (sym c.in_ok-range.ensures)) c.add_range.ensures.answer
+          (λ ok. same_contracts v _ _ _ _ c.add_range.ensures.contracts (taken _ _ _ _ c.add_range.ensures.said ok));
+      contracts = c.add_range.ensures.contracts;
       opening = refl;
     }

@@ -14,10 +14,10 @@ pub returns : goal.returns
 returns c =
     let s = c.args.self.now in
     let v = view_of s in
-    let row = c.in-ok-row.row in
+    let row = c.in_ok-row.row in
     record {
-      added = added (risk_refusal (table_in s.draft) (said_of s.draft).risks row.name row.risk) _ _ _ _ (ap (λ (f : Result RiskRow Refusal). f then risk_by v) (sym c.in-ok-row.ensures)) c.add-risk.ensures.answer
-          (λ ok. same_contracts v _ _ _ _ c.add-risk.ensures.contracts (taken _ _ _ _ c.add-risk.ensures.said ok));
-      contracts = c.add-risk.ensures.contracts;
+      added = added (risk_refusal (table_in s.draft) (said_of s.draft).risks row.name row.risk) _ _ _ _ (ap (λ (f : Result RiskRow Refusal). f then risk_by v) (sym c.in_ok-row.ensures)) c.add_risk.ensures.answer
+          (λ ok. same_contracts v _ _ _ _ c.add_risk.ensures.contracts (taken _ _ _ _ c.add_risk.ensures.said ok));
+      contracts = c.add_risk.ensures.contracts;
       opening = refl;
     }

@@ -46,28 +46,28 @@ hours is js t u c n h same e k f =
     let there = is_at_end t u c n e k in
     f there.0 ∙ ap₂ (λ (xs : List (Instrument Load)) (d : Listed). contract_hours (mask_in load_mask xs) d) same there.1
 
-pub returns-then-hours-at-eq0 : goal.returns-then-hours-at-eq0
-returns-then-hours-at-eq0 c =
+pub returns-then-hours_at-eq0 : goal.returns-then-hours_at-eq0
+returns-then-hours_at-eq0 c =
     let s = c.args.self.now in
     let v = view_of s in
     let k = said_in c.args.terms in
     let add = c.in-Ok.ensures in
     let none = none_of (prices_refusal (table_in s.draft) k c.args.prices) add.answer in
     let n = c.len-place.ensures ∙ s.draft.contracts.contracts.ok.0 ∙ sym (length-map (vec_items s.draft.contracts.contracts) listed) in
-    let h = hours v.instruments _ v.table _ k c.len-place.result c.hours-at.result add.profiles (ap (λ (p : Table × Said). p.0) add.draft) n c.hours-at.ensures in
-    record { added = by_hours v c.args.prices k true none (eq-eqb _ 0 (sym h ∙ c.if-hours-at-eq0.true)); opening = refl }
+    let h = hours v.instruments _ v.table _ k c.len-place.result c.hours_at.result add.profiles (ap (λ (p : Table × Said). p.0) add.draft) n c.hours_at.ensures in
+    record { added = by_hours v c.args.prices k true none (eq-eqb _ 0 (sym h ∙ c.if-hours_at-eq0.true)); opening = refl }
 
-pub returns-else-hours-at-eq0 : goal.returns-else-hours-at-eq0
-returns-else-hours-at-eq0 c =
+pub returns-else-hours_at-eq0 : goal.returns-else-hours_at-eq0
+returns-else-hours_at-eq0 c =
     let s = c.args.self.now in
     let v = view_of s in
     let k = said_in c.args.terms in
     let add = c.in-Ok.ensures in
     let none = none_of (prices_refusal (table_in s.draft) k c.args.prices) add.answer in
     let n = c.len-place.ensures ∙ s.draft.contracts.contracts.ok.0 ∙ sym (length-map (vec_items s.draft.contracts.contracts) listed) in
-    let h = hours v.instruments _ v.table _ k c.len-place.result c.hours-at.result add.profiles (ap (λ (p : Table × Said). p.0) add.draft) n c.hours-at.ensures in
+    let h = hours v.instruments _ v.table _ k c.len-place.result c.hours_at.result add.profiles (ap (λ (p : Table × Said). p.0) add.draft) n c.hours_at.ensures in
     record {
-      added = by_hours v c.args.prices k false none (ne_eqb _ 0 (λ e. c.if-hours-at-eq0.false (h ∙ e))) ∙ ap Ok (sym (tariff_alike v _ _ _ _ add.profiles add.draft));
+      added = by_hours v c.args.prices k false none (ne_eqb _ 0 (λ e. c.if-hours_at-eq0.false (h ∙ e))) ∙ ap Ok (sym (tariff_alike v _ _ _ _ add.profiles add.draft));
       opening = refl;
     }
 

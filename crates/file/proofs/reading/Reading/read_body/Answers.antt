@@ -28,7 +28,7 @@ loop-i-preserved c =
     let says = line_says c.args.section in
     let i = c.loop-i.i in
     let k : c.args.count - i ≡ suc (c.args.count - (i + 1)) = omega (arith, c.loop-i-test.true) in
-    let u = view_of c.read-row.new.self in
+    let u = view_of c.read_row.new.self in
     let on = body_more says (c.args.count - i) (c.args.count - (i + 1)) (c.args.line + i) (view_of c.loop-i.self) c.loop-i.rest.now _ c.loop-i.invariant.1 k u c.in-Ok.after.now c.in-Ok.ensures.row in
     let line : c.args.line + (i + 1) ≡ c.args.line + i + 1 = omega arith in
     (c.in-Ok.ensures.ready, ap (λ n. body_of says (c.args.count - (i + 1)) n u c.in-Ok.after.now) line ∙ on)
