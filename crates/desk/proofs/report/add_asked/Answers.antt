@@ -1,5 +1,5 @@
 use Rattle.std.proofs.Common.{◌≡◌, ℕ, List, ◌++◌, string_bytes, Result, ap, ◌∙◌}
-use Rattle.std.proofs.lemmas.Map.Pairs.{pairs-rest, pairs-rest-more, pairs-rest-all}
+use Rattle.desk.proofs.Pairs.{pairs_rest, pairs_rest_more, pairs_rest_all}
 use Rattle.std.specs.List.{zip}
 use Rattle.std.specs.Slice.Iter.{iter_rest}
 use Rattle.std.specs.Iterator.Adapters.{zip_first, zip_second}
@@ -21,9 +21,9 @@ loop-call-init c =
 
 pub loop-call-preserved : goal.loop-call-preserved
 loop-call-preserved c =
-    joined_next line_of _ _ (pairs-rest c.loop-call.call-iterator) (pairs-rest c.next.new.self) (c.in-Some.call.now, c.in-Some.answer.now) _ c.loop-call.invariant
-    (pairs-rest-more _ _ _ _ c.in-Some.is c.next.ensures.steps)
+    joined_next line_of _ _ (pairs_rest c.loop-call.call-iterator) (pairs_rest c.next.new.self) (c.in-Some.call.now, c.in-Some.answer.now) _ c.loop-call.invariant
+    (pairs_rest_more c.loop-call.call-iterator c.next.new.self _ _ c.in-Some.is c.next.ensures.steps)
     c.in_ok-add_call.ensures
 
 pub returns : goal.returns
-returns c = joined_last line_of _ _ (pairs-rest c.loop-call.call-iterator) c.loop-call.invariant (pairs-rest-all _ _ _ c.in-None.is c.next.ensures.steps)
+returns c = joined_last line_of _ _ (pairs_rest c.loop-call.call-iterator) c.loop-call.invariant (pairs_rest_all c.loop-call.call-iterator c.next.new.self _ c.in-None.is c.next.ensures.steps)

@@ -19,7 +19,7 @@ module _ (w : Scope) (ys : List Limit) (c i : ℕ) where
 
 pub returns-then-limit-contract : goal.returns-then-limit-contract
 returns-then-limit-contract c =
-    ap Some c.most-in.ensures
+    ap Some c.most_in.ensures
     ∙ sym (step c.args.scope c.args.limits.now c.args.contract c.loop-limit.limit-index _ true c.loop-limit-test.true refl (eq-eqb _ _ c.if-limit-contract.true))
     ∙ c.loop-limit.invariant
 

@@ -14,17 +14,17 @@ one_more w ys xs i x v old new lt is value inv pushed =
 
 pub loop-listing-init : goal.loop-listing-init
 loop-listing-init c =
-    let made = c.in-ok-places.ensures in
+    let made = c.in_ok-places.ensures in
     (made.items, made.len, omega (arith, made.capacity))
 
-pub push-reserved-requires : goal.push-reserved-requires
-push-reserved-requires c = omega (arith, c.loop-listing.invariant.1, c.loop-listing.invariant.2, c.loop-listing-test.true)
+pub push_reserved-requires : goal.push_reserved-requires
+push_reserved-requires c = omega (arith, c.loop-listing.invariant.1, c.loop-listing.invariant.2, c.loop-listing-test.true)
 
 pub loop-listing-preserved : goal.loop-listing-preserved
 loop-listing-preserved c =
     let inv = c.loop-listing.invariant in
-    let more = c.push-reserved.ensures in (
-      one_more c.args.scope c.args.limits.now c.args.listings.now c.loop-listing.listing-index c.listing-item.result c.limit-on.result (vec_items c.loop-listing.places) _ c.loop-listing-test.true c.listing-item.is c.limit-on.ensures inv.0 more.items,
+    let more = c.push_reserved.ensures in (
+      one_more c.args.scope c.args.limits.now c.args.listings.now c.loop-listing.listing-index c.listing-item.result c.limit_on.result (vec_items c.loop-listing.places) _ c.loop-listing-test.true c.listing-item.is c.limit_on.ensures inv.0 more.items,
       omega (arith, more.len, inv.1),
       omega (arith, more.capacity, inv.2),
     )

@@ -5,4 +5,4 @@ use Rattle.session.specs.Printed.{Printed}
 use Rattle.session.proofs.printing.printed.Goals as goal
 
 pub returns-in-Ok : goal.returns-in-Ok
-returns-in-Ok c = subst (λ (s : Result View Fault). IfOk c.session-text.result (λ t. Printed s (string_bytes t))) c.in-Ok.ensures.value c.session-text.ensures
+returns-in-Ok c = subst (λ (s : Result View Fault). IfOk c.session_text.result (λ t. Printed s (string_bytes t))) c.in-Ok.ensures.value c.session_text.ensures

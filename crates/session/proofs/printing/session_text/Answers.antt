@@ -7,7 +7,7 @@ use Rattle.session.proofs.printing.session_text.Goals as goal
 
 pub returns : goal.returns
 returns c =
-    let told = c.in-ok-answers.ensures in
+    let told = c.in_ok-answers.ensures in
     let opens = told.opens in
     let s = under_both (vec_items c.args.tables.opening.limits) told.book in
     record {
@@ -21,7 +21,7 @@ returns c =
         layers = opens.layers;
       };
       lines =
-          c.in-ok-add-answers.ensures
+          c.in_ok-add_answers.ensures
           ∙ ap (λ (bs : List ℕ). bs ++ answer_lines c.deref-2.result.now) c.new-text.ensures.bytes
           ∙ ap answer_lines (c.deref-2.ensures.value ∙ told.answered ∙ ap (λ (cs : List Call). answers s cs) c.deref.ensures.value);
     }

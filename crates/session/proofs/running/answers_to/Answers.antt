@@ -38,8 +38,8 @@ told items (Err x) g o m a calls h e f t = tt
 
 pub returns : goal.returns
 returns c =
-    told vec_items c.drive-on.result c.in-ok-ground.ground c.args.opening.now c.in-ok-members.members c.in-ok-agents.agents c.args.calls.now
-    c.in-ok-ground.ensures
-    (c.in-ok-members.ensures ∙ ap₂ (limits_by Member) c.deref.ensures.value c.deref-2.ensures.value)
-    (c.in-ok-agents.ensures ∙ ap₂ (limits_by Agents) c.deref-3.ensures.value c.deref-4.ensures.value)
-    c.drive-on.ensures
+    told vec_items c.drive_on.result c.in_ok-ground.ground c.args.opening.now c.in_ok-members.members c.in_ok-agents.agents c.args.calls.now
+    c.in_ok-ground.ensures
+    (c.in_ok-members.ensures ∙ ap₂ (limits_by Member) c.deref.ensures.value c.deref-2.ensures.value)
+    (c.in_ok-agents.ensures ∙ ap₂ (limits_by Agents) c.deref-3.ensures.value c.deref-4.ensures.value)
+    c.drive_on.ensures
