@@ -1,5 +1,5 @@
 -- What the entries that stand come to after a call.
-use Rattle.std.proofs.Common.{◌≡◌, ℕ, zero, suc, ◌+◌, ◌-◌, ◌<◌, ◌≤◌, Bool, true, false, cond, not, ◌&&◌, eqb, List, [], ◌∷◌, ◌++◌, length, get_or, set, ℤ, pos, ◌+ℤ◌, neg_ℤ, Some, None, sym, refl, ap, ◌∙◌, ap₂, arith}
+use Rattle.std.proofs.Common.{◌≡◌, ℕ, zero, suc, ◌-◌, ◌<◌, Bool, true, false, cond, ◌&&◌, eqb, List, [], ◌∷◌, ◌++◌, length, get_or, set, ℤ, refl, ap, ◌∙◌, ap₂, arith}
 use Rattle.std.proofs.lemmas.Int.{ints}
 use Rattle.std.proofs.lemmas.Bool.{not-false}
 use Rattle.terms.specs.Amounts.{no_amount, amount_plus, amount_minus}
@@ -7,10 +7,9 @@ use Rattle.terms.specs.declared.amounts.Amount.{Amount}
 use Rattle.bookkeeping.specs.declared.entry.Call.{Call}
 use Rattle.bookkeeping.specs.declared.entry.Call.TheVariants.{Enter, Cancel, Transfer, LimitMember, LimitAgents}
 use Rattle.bookkeeping.specs.declared.entry.Entry.{Entry}
-use Rattle.bookkeeping.specs.declared.entry.Trade.{Trade}
 use Rattle.bookkeeping.specs.Answers.{entry_at, taken, no_standing_entry}
 use Rattle.bookkeeping.specs.Journal.{blank, amount_of, counts, standing, entered, cancelled, moved}
-use Rattle.bookkeeping.specs.Shifts.{shift_by, entry_for, shift_of, is_at, shifts}
+use Rattle.bookkeeping.specs.Shifts.{shift_of, shifts}
 use Rattle.bookkeeping.specs.State.{State}
 
 pub amount_ext : (x y : Amount) → x.quantity ≡ y.quantity → x.value ≡ y.value → x ≡ y

@@ -1,5 +1,5 @@
 -- The ranges that every cell keeps to.
-use Rattle.std.specs.Prelude.{ℕ, Bool, true, false, cond, ◌&&◌, ℤ, ◌+ℤ◌, ◌==◌, unsigned_abs}
+use Rattle.std.specs.Prelude.{Bool, ◌&&◌, ℤ, ◌+ℤ◌, ◌==◌, unsigned_abs}
 use Rattle.terms.specs.Ranges.{holds_in}
 use Rattle.terms.specs.declared.amounts.Amount.{Amount}
 use Rattle.terms.specs.declared.bounds.Bounds.TheVariants.{Position, OpeningValue, TradedValue}

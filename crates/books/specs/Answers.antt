@@ -1,5 +1,5 @@
 -- Which answer comes to a call, and what the book is after it.
-use Rattle.std.specs.Prelude.{◌≡◌, ℕ, ◌+◌, ◌-◌, Bool, false, cond, not, ◌&&◌, ◌||◌, List, [], ◌∷◌, ◌++◌, length, ℤ, pos, ◌+ℤ◌, Ok, Err, Result, ◌==◌, nat_le, nat_lt, slice_index_or, slice_set, unsigned_abs}
+use Rattle.std.specs.Prelude.{◌≡◌, ℕ, ◌+◌, ◌-◌, Bool, false, cond, not, ◌&&◌, ◌||◌, List, [], ◌∷◌, ◌++◌, length, pos, ◌+ℤ◌, Ok, Err, Result, ◌==◌, nat_le, nat_lt, slice_index_or, slice_set, unsigned_abs}
 use Rattle.terms.specs.Ranges.{holds_in}
 use Rattle.terms.specs.declared.bounds.Bounds.{Bounds}
 use Rattle.terms.specs.declared.bounds.Bounds.TheVariants.{Price, Position, TradedValue, Account, Contract, Entry, ConcentrationLimit}

@@ -1,5 +1,5 @@
 -- The published hours come out.
-use Rattle.std.proofs.Common.{◌≡◌, ℕ, zero, suc, ◌+◌, ◌-◌, ◌/◌, ◌%◌, ◌^◌, ◌<◌, true, refl, ap, ◌∙◌, ap₂, pow-suc, arith}
+use Rattle.std.proofs.Common.{◌≡◌, ℕ, zero, suc, ◌+◌, ◌/◌, ◌%◌, ◌^◌, ◌<◌, true, refl, ap, ◌∙◌, ap₂, pow-suc, arith}
 use lib.Count.{ones, ones_in, ones_step}
 use Rattle.days.specs.Months.{month_of, month_start, month_length, lengths, month_from, start_from}
 use Rattle.days.specs.Days.{day_of}

@@ -1,12 +1,12 @@
 -- A file is refused exactly for what it is refused.
-use Rattle.std.proofs.Common.{◌≡◌, ℕ, ◌<◌, ◌≤◌, Bool, true, false, cond, ltb, List, length, Ok, Err, Result, sym, refl, ap, ◌∙◌, subst, arith}
+use Rattle.std.proofs.Common.{◌≡◌, ℕ, ◌<◌, ◌≤◌, Bool, true, false, cond, ltb, List, length, Ok, Err, Result, sym, refl, ap, ◌∙◌, arith}
 use Rattle.std.proofs.lemmas.Bool.{ltb-true, ltb-false, lt-ltb, le-ltb}
 use Rattle.terms.specs.declared.refusal.Refusal.TheVariants.{MissingRiskLine, TooLong}
 use Rattle.text.specs.Chain.{◌then◌}
 use Rattle.tariff.specs.Rules.{is_complete}
 use Rattle.file.specs.Contents.{count_of}
 use Rattle.file.specs.File.{plan, most_bytes, whole, file_says, Right, RefusedFor, too_long, at_fault, lacking, Lawful}
-use Rattle.file.specs.Plan.{lines_in, at, read_from, FirstFault}
+use Rattle.file.specs.Plan.{lines_in, at, read_from}
 use Rattle.file.specs.Says.{line_says}
 use Rattle.file.specs.View.{View, no_view}
 use Rattle.file.specs.declared.fault.Fault.{Fault}

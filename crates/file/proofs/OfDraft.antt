@@ -1,14 +1,13 @@
 -- An empty draft, and a draft that is complete.
-use Rattle.std.proofs.Common.{◌≡◌, ℕ, Bool, true, false, cond, List, [], ◌∷◌, map, Ok, Err, vec_items, Result, sym, refl, ap, ◌∙◌, ap₂, arith}
-use Rattle.terms.specs.declared.refusal.Refusal.{Refusal}
+use Rattle.std.proofs.Common.{◌≡◌, ℕ, List, [], ◌∷◌, map, vec_items, refl, ap, ◌∙◌, ap₂, arith}
 use Rattle.calendar.specs.declared.load.Load.{Load}
 use Rattle.contracts.specs.Rows.{instr}
-use Rattle.contracts.specs.Table.{Instr, Table}
+use Rattle.contracts.specs.Table.{Table}
 use Rattle.contracts.specs.declared.contract.Instrument.{Instrument}
 use Rattle.tariff.specs.Said.{Said}
-use Rattle.tariff.specs.Views.{table_in, said_of, draft_of}
+use Rattle.tariff.specs.Views.{draft_of}
 use Rattle.tariff.specs.declared.draft.Draft.{Draft}
-use Rattle.file.specs.View.{View, no_view, with_tariff}
+use Rattle.file.specs.View.{View, with_tariff}
 
 none_mapped : {X Y : Type 0} (f : X → Y) (xs : List X) → map f xs ≡ [] → xs ≡ []
 none_mapped f [] e = refl

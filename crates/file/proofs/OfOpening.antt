@@ -1,13 +1,12 @@
 -- An opening over the contracts of a table has nothing else.
-use Rattle.std.proofs.Common.{◌≡◌, List, [], vec_items, sym, refl, ap, ◌∙◌, ap₂}
+use Rattle.std.proofs.Common.{◌≡◌, List, [], vec_items, ap, ◌∙◌, ap₂}
 use Rattle.contracts.specs.Table.{Table}
 use Rattle.bookkeeping.specs.declared.entry.Account.{Account}
-use Rattle.bookkeeping.specs.declared.entry.Call.{Call}
 use Rattle.opening.specs.Views.{Said, opening_of, opened_on, listings_of}
 use Rattle.opening.specs.declared.opening.Opening.{Opening}
 use Rattle.opening.specs.declared.rows.Limit.{Limit}
 use Rattle.opening.specs.declared.rows.Opened.{Opened}
-use Rattle.file.specs.View.{View, with_opening, with_calls}
+use Rattle.file.specs.View.{View, with_opening}
 
 module _ (o : Opening) (t : Table) (e : opening_of o ≡ opened_on t) where
   pub no_accounts : vec_items o.accounts ≡ []

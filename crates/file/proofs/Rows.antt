@@ -1,16 +1,12 @@
 -- A row that a table takes or refuses.
-use Rattle.std.proofs.Common.{◌≡◌, Bool, true, false, cond, List, is_ok, Some, None, Ok, Err, vec_items, Option, Result, sym, refl, ap, ◌∙◌, subst, ap₂}
+use Rattle.std.proofs.Common.{◌≡◌, Bool, true, cond, is_ok, Some, None, Ok, vec_items, Option, Result, sym, ap, ◌∙◌, subst, ap₂}
 use Rattle.terms.specs.declared.refusal.Refusal.{Refusal}
 use Rattle.calendar.specs.declared.load.Load.{Load}
 use Rattle.contracts.specs.Rules.{answer_by}
-use Rattle.contracts.specs.Table.{Table}
 use Rattle.contracts.specs.Views.{table_of}
-use Rattle.contracts.specs.declared.contract.Instrument.{Instrument}
 use Rattle.contracts.specs.declared.table.ContractTable.{ContractTable}
 use Rattle.tariff.specs.Said.{Said}
-use Rattle.tariff.specs.Views.{table_in, said_of, draft_of}
-use Rattle.tariff.specs.declared.draft.Draft.{Draft}
-use Rattle.file.specs.Meaning.{view_of, Added}
+use Rattle.file.specs.Meaning.{Added}
 use Rattle.file.specs.Says.{by}
 use Rattle.file.specs.View.{View, with_tariff}
 

@@ -1,5 +1,5 @@
 -- Reading part after part is reading line by line.
-use Rattle.std.proofs.Common.{◌≡◌, ℕ, zero, suc, ◌+◌, Bool, true, false, cond, eqb, List, [], ◌∷◌, ◌++◌, length, replicate, Some, None, Ok, Err, Option, Result, sym, refl, ap, ◌∙◌, ap₂, append_assoc, append-nil, add-zero, arith}
+use Rattle.std.proofs.Common.{◌≡◌, ℕ, zero, suc, ◌+◌, Bool, true, false, cond, eqb, List, [], ◌∷◌, ◌++◌, replicate, Some, None, Ok, Err, Option, Result, sym, refl, ap, ◌∙◌, append_assoc, append-nil, add-zero, arith}
 use Rattle.std.specs.Str.{bytes_eq}
 use Rattle.terms.specs.declared.refusal.Refusal.{Refusal}
 use Rattle.terms.specs.declared.refusal.Refusal.TheVariants.{Form}
@@ -7,7 +7,7 @@ use Rattle.text.specs.Chain.{◌then◌}
 use Rattle.text.specs.Fields.{Piece}
 use Rattle.text.specs.Lines.{line_from, line_of, fields_of}
 use Rattle.file.specs.declared.fault.Fault.{Fault}
-use Rattle.file.specs.Plan.{Line, whole, unended, last_bytes, lines_from, lines_in, Due, title, contents, row, title_is, at, read_with, promises, judged, read_from}
+use Rattle.file.specs.Plan.{Line, whole, unended, last_bytes, lines_from, lines_in, Due, title, contents, row, title_is, at, read_with, promises, read_from}
 use Rattle.file.specs.Walk.{on_text, with_rest, line_at, body_of, title_at, at_end}
 
 -- ---- steps

@@ -11,14 +11,14 @@ use Rattle.forms.specs.declared.section.Section.{Section}
 use Rattle.forms.specs.declared.section.Section.TheVariants.{Head, Instruments, Contracts, Accounts, Openings, Limits, Risks, Ranges, Credits, Calls}
 use Rattle.file.specs.Contents.{count_for, count_of, counts_of}
 use Rattle.file.specs.File.{sections, plan}
-use Rattle.file.specs.Parts.{contracts_at, accounts_at, openings_at, limits_at, risks_at, ranges_at, credits_at, calls_at, end_at, contract_parts, opening_parts, tariff_parts, last_parts, bodies_of, parts_of}
-use Rattle.file.specs.Plan.{Due, title, contents, row, lines_in, at, read_from}
+use Rattle.file.specs.Parts.{contracts_at, accounts_at, risks_at, calls_at, end_at, contract_parts, opening_parts, tariff_parts, last_parts, bodies_of, parts_of}
+use Rattle.file.specs.Plan.{Due, contents, row, lines_in, at, read_from}
 use Rattle.file.specs.Says.{line_says}
 use Rattle.file.specs.View.{View, no_view}
-use Rattle.file.specs.Walk.{on_text, with_rest, line_at, body_of, title_at, at_end}
+use Rattle.file.specs.Walk.{on_text, with_rest, line_at, body_of, title_at}
 use Rattle.file.specs.declared.counts.Counts.{Counts}
 use Rattle.file.specs.declared.fault.Fault.{Fault}
-use Rattle.file.proofs.Walking.{then_ap, then_then, rows_read, one_row, count_read, title_read, end_read}
+use Rattle.file.proofs.Walking.{then_ap, rows_read, one_row, count_read, title_read, end_read}
 
 abbrev reads : ℕ → List (Due Section) → View → List ℕ → Result View Fault
 reads n ds v bs = read_from count_of line_says n ds v (lines_in bs)

@@ -1,5 +1,5 @@
 -- What a margin file says.
-use Rattle.std.specs.Prelude.{◌≡◌, ℕ, ◌<◌, ◌≤◌, Bool, true, false, cond, ◌⊎◌, List, [], ◌∷◌, map, length, Some, Ok, Err, Result, nat_lt}
+use Rattle.std.specs.Prelude.{◌≡◌, ℕ, ◌<◌, ◌≤◌, true, false, cond, List, [], ◌∷◌, map, length, Some, Ok, Err, Result, nat_lt}
 use Rattle.terms.specs.declared.refusal.Refusal.TheVariants.{MissingRiskLine, TooLong}
 use Rattle.text.specs.Chain.{◌then◌}
 use Rattle.tariff.specs.Rules.{is_complete}

@@ -1,5 +1,5 @@
 -- The bodies of a file, section after section.
-use Rattle.std.specs.Prelude.{ℕ, ◌+◌, List, Ok, Err, Result}
+use Rattle.std.specs.Prelude.{ℕ, ◌+◌, List, Result}
 use Rattle.text.specs.Chain.{◌then◌}
 use Rattle.forms.specs.declared.section.Section.TheVariants.{Head, Instruments, Contracts, Accounts, Openings, Limits, Risks, Ranges, Credits, Calls}
 use Rattle.file.specs.Contents.{counts_of}

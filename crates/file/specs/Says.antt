@@ -20,13 +20,12 @@ use Rattle.opening.specs.Views.{listings_of}
 use Rattle.opening.specs.declared.rows.Limit.{Limit}
 use Rattle.opening.specs.declared.rows.Opened.{Opened}
 use Rattle.tariff.specs.Rules.{spot_refusal, prices_refusal, risk_refusal, range_refusal, credit_refusal, named}
-use Rattle.tariff.specs.Said.{Ranged, Rated}
+use Rattle.tariff.specs.Said.{Ranged}
 use Rattle.tariff.specs.Views.{no_rows, plus_spot, plus_prices, plus_risk, plus_range, plus_credit}
 use Rattle.tariff.specs.declared.rows.Credit.{Credit}
 use Rattle.tariff.specs.declared.rows.Prices.{Prices}
 use Rattle.forms.specs.Forms.{head_form, instrument_form, contract_form, account_form, opening_form, limit_form, risk_form, range_form, credit_form, call_form}
 use Rattle.forms.specs.declared.row.ContractRow.{ContractRow}
-use Rattle.forms.specs.declared.row.Head.{Head as HeadRow}
 use Rattle.forms.specs.declared.row.InstrumentRow.{InstrumentRow}
 use Rattle.forms.specs.declared.row.RiskRow.{RiskRow}
 use Rattle.forms.specs.declared.section.Section.{Section}

@@ -1,5 +1,5 @@
 -- What has been read of a file.
-use Rattle.std.specs.Prelude.{false, List, [], vec_items}
+use Rattle.std.specs.Prelude.{false, List, []}
 use Rattle.calendar.specs.declared.load.Load.{Load}
 use Rattle.contracts.specs.Table.{Table}
 use Rattle.contracts.specs.Views.{empty_table}

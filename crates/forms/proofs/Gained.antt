@@ -1,15 +1,14 @@
 -- The gains of a line, one number after another.
-use Rattle.std.proofs.Common.{◌≡◌, ℕ, zero, suc, ◌+◌, ◌-◌, ◌<◌, ◌≤◌, Bool, true, false, cond, ◌||◌, ltb, ◌⊎◌, List, [], ◌∷◌, ◌++◌, map, length, get_or, take, drop, set, replicate, ℤ, pos, negsuc, Ok, Err, Result, sym, refl, ap, ◌∙◌, inl, inr, append_assoc, arith, length-set, w64, SFits, of_z}
+use Rattle.std.proofs.Common.{◌≡◌, ℕ, zero, suc, ◌+◌, ◌-◌, ◌<◌, ◌≤◌, Bool, true, false, cond, ◌⊎◌, List, [], ◌∷◌, ◌++◌, map, length, get_or, take, drop, set, replicate, ℤ, pos, negsuc, Ok, Err, Result, sym, refl, ap, ◌∙◌, inl, inr, append_assoc, arith, length-set, w64, SFits, of_z}
 use Rattle.std.proofs.lemmas.List.{at_drop_more, at_drop_all, append-nil, length-map, length-take-le, take_more_set, drop-set-lt, drop-drop, drop-replicate, take-append-drop}
 use Rattle.std.proofs.lemmas.Bool.{eq-eqb, ne_eqb, lt-ltb, le-ltb}
-use Rattle.terms.specs.declared.amounts.Gains.{Gains}
 use Rattle.terms.specs.declared.refusal.Refusal.{Refusal}
 use Rattle.terms.specs.declared.refusal.Refusal.TheVariants.{Form}
 use Rattle.text.specs.Chain.{◌then◌}
 use Rattle.text.specs.Cursor.{number_in}
 use Rattle.text.specs.Fields.{Piece, a_word, a_number, see}
 use Rattle.text.specs.declared.field.Field.{Field}
-use Rattle.forms.specs.Tails.{numbers_in, is_zero, ends_in_zero, filled_up, gains_form}
+use Rattle.forms.specs.Tails.{numbers_in, is_zero, ends_in_zero, gains_form}
 
 -- all numbers, as many as there are fields; or wrong in form
 numbers_told : (ps : List Piece) → (numbers_in ps ≡ Err Form) ⊎ ((zs : List ℤ) × (numbers_in ps ≡ Ok zs) × (length zs ≡ length ps))

@@ -1,14 +1,13 @@
 -- What a read of a cell gives.
-use Rattle.std.proofs.Common.{◌≡◌, ℕ, ◌+◌, ◌*◌, ◌<◌, ◌≤◌, Bool, true, false, cond, length, get_or, Some, None, vec_items, vec_len, sym, ap, ◌∙◌, subst, ap₂, arith}
+use Rattle.std.proofs.Common.{◌≡◌, ℕ, ◌+◌, ◌*◌, ◌<◌, ◌≤◌, Bool, true, false, cond, length, get_or, vec_items, vec_len, sym, ap, ◌∙◌, ap₂, arith}
 use Rattle.std.proofs.lemmas.Nat.{mul-add-lt}
 use Rattle.std.proofs.lemmas.List.{get_or_read_under}
 use Rattle.std.proofs.lemmas.Bool.{and_parts, and_from}
 use Rattle.terms.specs.Amounts.{no_amount, amount_plus}
 use Rattle.terms.specs.declared.amounts.Amount.{Amount}
 use Rattle.bookkeeping.specs.Cells.{trades_within}
-use Rattle.bookkeeping.specs.State.{is_account, is_listing, account_place, listing_place, kind_of, cell_within}
-use Rattle.bookkeeping.specs.declared.entry.Cell.{Cell}
-use Rattle.ledger.specs.Places.{place_of, cell_at}
+use Rattle.bookkeeping.specs.State.{is_account, is_listing, account_place, listing_place, kind_of}
+use Rattle.ledger.specs.Places.{place_of}
 use Rattle.ledger.specs.Views.{opening, traded, is_in, bears_at, holding_of, nobody}
 use Rattle.ledger.specs.declared.tables.Tables.{Tables}
 use Rattle.ledger.proofs.Places.{account_is_within, listing_within}

@@ -1,13 +1,13 @@
 -- What a call is answered, from the cells.
-use Rattle.std.proofs.Common.{◌≡◌, ℕ, ◌-◌, ◌<◌, Bool, true, false, cond, not, ◌&&◌, ◌||◌, eqb, List, [], ◌∷◌, length, get_or, take, is_ok, Some, None, Ok, Err, vec_items, Result, sym, refl, ap, ◌∙◌, subst, ap₂, arith}
+use Rattle.std.proofs.Common.{◌≡◌, ℕ, ◌-◌, Bool, true, false, cond, not, ◌&&◌, ◌||◌, eqb, List, [], ◌∷◌, get_or, is_ok, Ok, Err, vec_items, sym, refl, ap, ◌∙◌, ap₂, arith}
 use Rattle.std.proofs.lemmas.Int.{ints}
-use Rattle.std.proofs.lemmas.Bool.{and_parts, and_from, not-false, eq-eqb, eqb-true, ne_eqb, eqb-false}
+use Rattle.std.proofs.lemmas.Bool.{and_parts, and_from, not-false, eq-eqb, ne_eqb, eqb-false}
 use Rattle.terms.specs.Amounts.{no_amount, amount_plus, amount_minus}
 use Rattle.terms.specs.declared.amounts.Amount.{Amount}
 use Rattle.terms.specs.declared.refusal.Refusal.{Refusal}
 use Rattle.terms.specs.declared.refusal.Refusal.TheVariants.{OutOfRange, NotInBook, RegistrationOver, JournalFull, NoStandingEntry, OwnAccount, CellOutOfRange, OverLimit}
 use Rattle.bookkeeping.proofs.Shifts.{amount_ext, after_call}
-use Rattle.bookkeeping.specs.Answers.{answer, taken, changed, Place, entry_at, entry_of, out_of_range, not_in_book, registration_over, journal_full, no_standing_entry, own_account, is_unfit, any_unfit, any_over}
+use Rattle.bookkeeping.specs.Answers.{answer, taken, changed, Place, entry_of, out_of_range, not_in_book, registration_over, journal_full, no_standing_entry, own_account, is_unfit, any_unfit, any_over}
 use Rattle.bookkeeping.specs.Cells.{trades_within}
 use Rattle.bookkeeping.specs.Journal.{blank, amount_of, standing}
 use Rattle.bookkeeping.specs.Shifts.{shift_of, entry_for, shifts}

@@ -1,5 +1,5 @@
 -- What a table book keeps to.
-use Rattle.std.proofs.Common.{◌≡◌, ℕ, zero, suc, ◌<◌, ◌≤◌, Bool, true, false, cond, not, ◌&&◌, ◌||◌, eqb, List, [], ◌∷◌, length, get_or, take, ℤ, pos, ◌+ℤ◌, Ok, Err, vec_items, sym, refl, ap, ◌∙◌, subst, ap₂, arith}
+use Rattle.std.proofs.Common.{◌≡◌, ℕ, zero, suc, ◌<◌, Bool, true, false, cond, not, ◌&&◌, ◌||◌, eqb, List, [], ◌∷◌, length, get_or, take, ℤ, pos, ◌+ℤ◌, Ok, Err, vec_items, sym, refl, ap, ◌∙◌, ap₂, arith}
 use Rattle.std.proofs.lemmas.List.{get_or-take, length-take-le}
 use Rattle.std.proofs.lemmas.Bool.{eq-eqb}
 use Rattle.terms.specs.declared.amounts.Amount.{Amount}
@@ -19,7 +19,7 @@ use Rattle.bookkeeping.specs.declared.entry.Whose.{Whose}
 use Rattle.bookkeeping.specs.declared.shift.Shift.{Shift}
 use Rattle.ledger.specs.Asked.{missing, own}
 use Rattle.ledger.specs.Meaning.{state_by, state_of}
-use Rattle.ledger.specs.Places.{amount_at, is_listed}
+use Rattle.ledger.specs.Places.{amount_at}
 use Rattle.ledger.specs.Views.{opening, traded, is_in, holding_of, bears, Kept, net_of, held_in}
 use Rattle.ledger.proofs.Conditions.{missing_is, own_is, unfit, Sound}
 use Rattle.ledger.specs.declared.table_book.TableBook.{TableBook}

@@ -1,9 +1,9 @@
 -- Rows by number, and the places of cells.
-use Rattle.std.proofs.Common.{◌≡◌, ℕ, zero, suc, ◌+◌, ◌*◌, ◌<◌, ◌≤◌, Bool, true, false, cond, not, ◌&&◌, ◌||◌, eqb, ltb, List, [], ◌∷◌, length, get_or, drop, IfSome, Some, None, Option, sym, refl, ap, ◌∙◌, subst, add-zero, add-suc, add-one, arith}
+use Rattle.std.proofs.Common.{◌≡◌, ℕ, suc, ◌+◌, ◌<◌, ◌≤◌, Bool, true, false, cond, ◌||◌, eqb, ltb, List, [], ◌∷◌, length, get_or, drop, IfSome, Some, None, Option, sym, refl, ap, ◌∙◌, subst, add-zero, arith}
 use Rattle.std.proofs.lemmas.List.{drop_more, drop_all}
-use Rattle.std.proofs.lemmas.Bool.{eqb-true, eqb-false, eq-eqb, ne_eqb}
+use Rattle.std.proofs.lemmas.Bool.{eq-eqb, ne_eqb}
 use Rattle.bookkeeping.specs.Answers.{is_over}
-use Rattle.bookkeeping.specs.State.{is_account, is_listing, account_place, listing_place, are_apart}
+use Rattle.bookkeeping.specs.State.{is_account, is_listing, account_place, listing_place}
 use Rattle.bookkeeping.specs.declared.entry.Account.{Account}
 use Rattle.bookkeeping.specs.declared.entry.Listing.{Listing}
 use Rattle.ledger.specs.Places.{place_from}

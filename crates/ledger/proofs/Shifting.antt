@@ -1,7 +1,7 @@
 -- What moves between cells.
-use Rattle.std.proofs.Common.{◌≡◌, ℕ, ◌<◌, Bool, true, false, cond, ◌&&◌, eqb, List, [], ◌∷◌, length, set, Some, None, vec_items, Option, sym, refl, ap, ◌∙◌, subst, ap₂, arith}
+use Rattle.std.proofs.Common.{◌≡◌, ℕ, ◌<◌, Bool, true, false, cond, ◌&&◌, eqb, List, length, set, Some, None, vec_items, Option, sym, refl, ap, ◌∙◌, ap₂, arith}
 use Rattle.std.proofs.lemmas.Int.{ints}
-use Rattle.std.proofs.lemmas.Bool.{and_parts, and_from, eq-eqb, eqb-true}
+use Rattle.std.proofs.lemmas.Bool.{and_from, eq-eqb, eqb-true}
 use Rattle.terms.specs.Amounts.{no_amount, amount_plus, amount_minus}
 use Rattle.terms.specs.declared.amounts.Amount.{Amount}
 use Rattle.bookkeeping.proofs.Shifts.{amount_ext}
@@ -11,7 +11,7 @@ use Rattle.bookkeeping.specs.declared.entry.Account.{Account}
 use Rattle.bookkeeping.specs.declared.entry.Listing.{Listing}
 use Rattle.bookkeeping.specs.declared.shift.Shift.{Shift}
 use Rattle.ledger.specs.Places.{place_of, is_listed, amount_at, goes, Shifted}
-use Rattle.ledger.specs.Views.{opening, traded, is_in, bears_at, bears_by, Kept}
+use Rattle.ledger.specs.Views.{traded, is_in, bears_at, bears_by, Kept}
 use Rattle.ledger.specs.declared.tables.Tables.{Tables}
 use Rattle.ledger.proofs.Writes.{either}
 

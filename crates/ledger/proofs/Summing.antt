@@ -1,9 +1,9 @@
 -- The sum of the net positions that are written one after another.
-use Rattle.std.proofs.Common.{◌≡◌, ℕ, zero, suc, ◌+◌, ◌*◌, ◌<◌, ◌≤◌, Bool, true, false, cond, not, ◌&&◌, ◌||◌, eqb, ◌≢◌, List, [], ◌∷◌, ◌++◌, length, get_or, take, set, ℤ, pos, ◌+ℤ◌, nat_abs, fold, sum_by, sym, refl, ap, ◌∙◌, subst, add-one, arith, below_more}
+use Rattle.std.proofs.Common.{◌≡◌, ℕ, zero, suc, ◌+◌, ◌*◌, ◌<◌, ◌≤◌, Bool, true, false, cond, not, ◌||◌, eqb, ◌≢◌, List, [], ◌∷◌, ◌++◌, length, get_or, take, set, ℤ, pos, ◌+ℤ◌, nat_abs, fold, sum_by, sym, refl, ap, ◌∙◌, subst, add-one, arith, below_more}
 use borrow.Author.Differences.{ints, abs_is}
 use Rattle.std.proofs.lemmas.List.{get_or-set_same, get_or-set_other, length-set, take_more}
 use Rattle.std.proofs.lemmas.List.Sums.{fold_more, sum_by_more, sum_by-cons}
-use Rattle.std.proofs.lemmas.Bool.{and_parts, not-true, eqb-true, eq-eqb, ne_eqb, both_ways}
+use Rattle.std.proofs.lemmas.Bool.{and_parts, not-true, eq-eqb, ne_eqb, both_ways}
 use Rattle.bookkeeping.specs.Limits.{is_of, held_by}
 use Rattle.bookkeeping.specs.State.{is_account, account_place, are_apart}
 use Rattle.bookkeeping.specs.declared.entry.Account.{Account}

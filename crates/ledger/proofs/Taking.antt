@@ -1,15 +1,14 @@
 -- A table book after a call that it took.
-use Rattle.std.proofs.Common.{◌≡◌, ℕ, ◌+◌, ◌-◌, ◌^◌, ◌<◌, ◌≤◌, Bool, true, false, not, eqb, leb, ◌≢◌, List, [], ◌∷◌, ◌++◌, length, get_or, take, set, is_ok, vec_items, sym, refl, ap, ◌∙◌, subst, ap₂, inl, inr, arith}
+use Rattle.std.proofs.Common.{◌≡◌, ℕ, ◌+◌, ◌-◌, ◌^◌, ◌<◌, ◌≤◌, true, false, ◌≢◌, List, [], ◌∷◌, ◌++◌, length, get_or, take, set, is_ok, vec_items, sym, refl, ap, ◌∙◌, subst, ap₂, inl, inr, arith}
 use lib.Seq.{take-set-lt}
-use Rattle.std.proofs.lemmas.List.{get_or-set_same, get_or-set_other, take_more_set, get_or-take}
-use Rattle.std.proofs.lemmas.Bool.{cases_eq, eqb-true, eqb-false, ne_eqb, not-false, not-true, leb-false, both_ways, and_parts, and_from}
+use Rattle.std.proofs.lemmas.List.{get_or-set_same, get_or-set_other, take_more_set}
+use Rattle.std.proofs.lemmas.Bool.{cases_eq, eqb-true, eqb-false, ne_eqb, not-false, leb-false}
 use Rattle.terms.specs.Amounts.{amount_plus, amount_size}
-use Rattle.terms.specs.declared.amounts.Amount.{Amount}
 use Rattle.bookkeeping.proofs.Shifts.{after_call}
-use Rattle.bookkeeping.specs.Answers.{answer, taken, changed, any_unfit, own_account, entry_at}
-use Rattle.bookkeeping.specs.Journal.{blank, room, standing, entered, cancelled, moved}
+use Rattle.bookkeeping.specs.Answers.{answer, taken, own_account, entry_at}
+use Rattle.bookkeeping.specs.Journal.{blank, room, standing}
 use Rattle.bookkeeping.specs.Shifts.{shift_by, shift_of, entry_for, is_at, shifts}
-use Rattle.bookkeeping.specs.State.{State, is_account, is_listing}
+use Rattle.bookkeeping.specs.State.{State}
 use Rattle.bookkeeping.specs.declared.entry.Account.{Account}
 use Rattle.bookkeeping.specs.declared.entry.Call.{Call}
 use Rattle.bookkeeping.specs.declared.entry.Call.TheVariants.{Enter, Cancel, Transfer, LimitMember, LimitAgents}
@@ -23,8 +22,8 @@ use Rattle.ledger.specs.Tied.{AllListed}
 use Rattle.ledger.specs.Views.{is_in, bears, Kept}
 use Rattle.ledger.specs.declared.table_book.TableBook.{TableBook}
 use Rattle.ledger.specs.declared.tables.Tables.{Tables}
-use Rattle.ledger.proofs.Conditions.{Sound, allowed}
-use Rattle.ledger.proofs.OfBook.{entries_of, tied_of, length_of, stands_below, at_entry, listed_of, state_kept, unfit_of}
+use Rattle.ledger.proofs.Conditions.{allowed}
+use Rattle.ledger.proofs.OfBook.{entries_of, tied_of, length_of, stands_below, at_entry, state_kept, unfit_of}
 
 -- ---- what a call that is taken moves
 apart_of : (s : State) (call : Call) → own_account s call ≡ false → (a : ℕ) → is_at (shift_of s call).to a ≡ true → is_at (shift_of s call).from a ≡ false

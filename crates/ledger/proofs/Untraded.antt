@@ -1,5 +1,5 @@
 -- Tables with nothing traded.
-use Rattle.std.proofs.Common.{◌≡◌, ℕ, zero, suc, ◌+◌, ◌*◌, Bool, true, false, ◌&&◌, List, [], ◌∷◌, length, get_or, replicate, ℤ, pos, ◌+ℤ◌, vec_items, vec_len, sym, refl, ap, ◌∙◌, subst, ap₂, arith}
+use Rattle.std.proofs.Common.{◌≡◌, ℕ, zero, suc, ◌+◌, ◌*◌, true, get_or, replicate, pos, ◌+ℤ◌, vec_items, sym, refl, ap, ◌∙◌, arith}
 use Rattle.std.proofs.lemmas.Int.{ints}
 use Rattle.std.proofs.lemmas.Bool.{and_parts, and_from}
 use Rattle.terms.specs.Amounts.{no_amount}
@@ -8,8 +8,6 @@ use Rattle.terms.specs.declared.amounts.Amount.{Amount}
 use Rattle.terms.specs.declared.bounds.Bounds.TheVariants.{Position, TradedValue}
 use Rattle.bookkeeping.specs.Cells.{opens_within, value_within, trades_within}
 use Rattle.bookkeeping.specs.State.{is_account, is_listing, account_place, listing_place, kind_of, cell_within}
-use Rattle.bookkeeping.specs.declared.entry.Account.{Account}
-use Rattle.bookkeeping.specs.declared.entry.Listing.{Listing}
 use Rattle.contracts.specs.declared.kind.Kind.{Kind}
 use Rattle.opening.specs.declared.opening.Opening.{Opening}
 use Rattle.ledger.specs.Places.{place_of, amount_at, CellsWithin}

@@ -1,17 +1,16 @@
 -- What a write to one cell leaves.
-use Rattle.std.proofs.Common.{◌≡◌, ℕ, zero, suc, ◌+◌, ◌*◌, ◌/◌, ◌%◌, ◌<◌, ◌≤◌, Bool, true, false, cond, ◌&&◌, ◌||◌, eqb, ◌≢◌, List, [], ◌∷◌, length, get_or, set, sym, refl, ap, ◌∙◌, subst, ap₂, inl, inr, arith}
-use Rattle.std.proofs.lemmas.Nat.{div-mul-add, mod-mul-add, mul-add-lt}
+use Rattle.std.proofs.Common.{◌≡◌, ℕ, suc, ◌/◌, ◌%◌, ◌<◌, Bool, true, false, cond, ◌&&◌, ◌||◌, eqb, List, [], ◌∷◌, length, set, sym, refl, ap, ◌∙◌, subst, ap₂, inl, inr, arith}
+use Rattle.std.proofs.lemmas.Nat.{div-mul-add, mod-mul-add}
 use Rattle.std.proofs.lemmas.List.{get_or-set_same, get_or-set_other}
-use Rattle.std.proofs.lemmas.Bool.{and_parts, and_from, eq-eqb, eqb-true, eqb-false, cases_eq, ne_eqb}
+use Rattle.std.proofs.lemmas.Bool.{and_parts, and_from, eqb-true, cases_eq}
 use Rattle.terms.specs.Amounts.{no_amount}
 use Rattle.terms.specs.declared.amounts.Amount.{Amount}
 use Rattle.bookkeeping.specs.Cells.{opens_within, trades_within}
-use Rattle.bookkeeping.specs.State.{is_account, is_listing, account_place, listing_place, kind_of, cell_within}
+use Rattle.bookkeeping.specs.State.{is_account, is_listing, account_place, listing_place, kind_of}
 use Rattle.bookkeeping.specs.declared.entry.Account.{Account}
-use Rattle.bookkeeping.specs.declared.entry.Cell.{Cell}
 use Rattle.bookkeeping.specs.declared.entry.Listing.{Listing}
-use Rattle.ledger.specs.Places.{place_of, is_listed, amount_at, cell_at, CellsWithin}
-use Rattle.ledger.proofs.Places.{account_is_within, listing_within}
+use Rattle.ledger.specs.Places.{place_of, is_listed, amount_at, CellsWithin}
+use Rattle.ledger.proofs.Places.{listing_within}
 
 -- ---- a place is one account's and one contract's
 next : (n a b : ℕ) (s t : Bool) (i j : ℕ) → (s ≡ true → t ≡ true → i ≡ j → a ≡ b) → eqb n a || s ≡ true → eqb n b || t ≡ true → cond (eqb n a) 0 (suc i) ≡ cond (eqb n b) 0 (suc j) → a ≡ b

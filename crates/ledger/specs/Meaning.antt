@@ -1,8 +1,8 @@
 -- What a table book means.
-use Rattle.std.specs.Prelude.{ℕ, List, [], take, vec_items}
-use Rattle.bookkeeping.specs.State.{State, Holding}
+use Rattle.std.specs.Prelude.{List, [], take, vec_items}
+use Rattle.bookkeeping.specs.State.{State}
 use Rattle.bookkeeping.specs.declared.entry.Entry.{Entry}
-use Rattle.ledger.specs.Views.{opening, holding_of}
+use Rattle.ledger.specs.Views.{opening}
 use Rattle.ledger.specs.declared.tables.Tables.{Tables}
 use Rattle.ledger.specs.declared.table_book.TableBook.{TableBook}
 

@@ -1,5 +1,5 @@
 -- Where the cell of an account in a contract lies.
-use Rattle.std.specs.Prelude.{◌≡◌, ℕ, suc, ◌+◌, ◌*◌, Bool, true, cond, ◌&&◌, List, [], ◌∷◌, length, Some, None, Option, ◌==◌, slice_index_or}
+use Rattle.std.specs.Prelude.{◌≡◌, ℕ, ◌+◌, ◌*◌, Bool, true, cond, ◌&&◌, List, [], ◌∷◌, length, Some, None, Option, ◌==◌, slice_index_or}
 use Rattle.terms.specs.Amounts.{no_amount, amount_plus}
 use Rattle.terms.specs.declared.amounts.Amount.{Amount}
 use Rattle.bookkeeping.specs.Shifts.{is_at}

@@ -3,7 +3,7 @@ use Rattle.std.proofs.Common.{◌≡◌, ℕ, suc, ◌+◌, ◌-◌, ◌<◌, �
 use borrow.Author.Differences.{ints, abs_is}
 use Rattle.std.specs.List.{range_with_len}
 use Rattle.std.proofs.lemmas.Int.{by_lt_z}
-use Rattle.contracts.specs.Table.{Table, size}
+use Rattle.contracts.specs.Table.{Table}
 use Rattle.positions.specs.Net.{Places, Relation, opposite, all_opposite, arbitrage, smallest, towards, is_in, net, net_all, Nearer}
 use Rattle.positions.specs.Netted.{Tier, is_listed, relation_of, relations_over}
 use Rattle.positions.proofs.Conserving.{Below, AllWhole}

@@ -3,7 +3,6 @@ use Rattle.std.proofs.Common.{◌≡◌, ℕ, zero, suc, ◌-◌, ◌<◌, true,
 use Rattle.contracts.specs.Table.{Table, size}
 use Rattle.contracts.specs.Views.{table_of}
 use Rattle.contracts.specs.declared.table.ContractTable.{ContractTable}
-use Rattle.positions.specs.Netted as spec
 use Rattle.positions.specs.Netted.{is_listed, relation_of}
 use Rattle.positions.specs.Steps.{Distinct}
 use Rattle.positions.specs.Tiers.{tier_of}

@@ -1,4 +1,4 @@
-use Rattle.std.proofs.Common.{ℕ, List, refl, ap, ◌∙◌}
+use Rattle.std.proofs.Common.{List, refl, ap, ◌∙◌}
 use Rattle.bookkeeping.specs.State.{State}
 use Rattle.bookkeeping.specs.declared.entry.Account.{Account}
 use Rattle.ledger.specs.Views.{nobody}

@@ -1,4 +1,4 @@
-use Rattle.std.proofs.Common.{◌≡◌, ℕ, List, ◌++◌, string_bytes, Result, ap, ◌∙◌}
+use Rattle.std.proofs.Common.{ℕ, List, ◌++◌, string_bytes, Result, ap, ◌∙◌}
 use Rattle.desk.proofs.Pairs.{pairs_rest, pairs_rest_more, pairs_rest_all}
 use Rattle.std.specs.List.{zip}
 use Rattle.std.specs.Slice.Iter.{iter_rest}

@@ -1,4 +1,4 @@
-use Rattle.std.proofs.Common.{◌≡◌, ℕ, Bool, true, false, cond, Ok, Err, vec_items, Result, sym, refl, ap, ◌∙◌, subst, arith}
+use Rattle.std.proofs.Common.{◌≡◌, ℕ, Bool, true, false, cond, Ok, Err, Result, sym, refl, ap, ◌∙◌, subst, arith}
 use Rattle.terms.specs.declared.refusal.Refusal.{Refusal}
 use Rattle.terms.specs.declared.refusal.Refusal.TheVariants.{MissingRiskLine}
 use Rattle.calendar.specs.declared.load.Load.{Load}
@@ -17,8 +17,6 @@ use Rattle.file.specs.declared.fault.Unread.{Unread}
 use Rattle.file.specs.declared.reading.Reading.{Reading}
 use Rattle.file.specs.Meaning.{view_of}
 use Rattle.file.specs.Plan.{at}
-use Rattle.file.specs.View.{View}
-use Rattle.file.specs.declared.fault.Fault.{Fault}
 use Rattle.file.proofs.filling.complete.Goals as goal
 
 done : {X E : Type 0} (b : Bool) (x d : X) (m : E) → ◌≡◌ {A = Result X E} (Ok x) (cond b (Ok d) (Err m)) → (b ≡ true) × (x ≡ d)

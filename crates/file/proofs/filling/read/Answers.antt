@@ -1,4 +1,4 @@
-use Rattle.std.proofs.Common.{◌≡◌, refl, inl, inr}
+use Rattle.std.proofs.Common.{refl, inr}
 use Rattle.file.proofs.Law.{lawful}
 use Rattle.file.proofs.filling.read.Goals as goal
 

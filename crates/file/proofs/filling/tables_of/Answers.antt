@@ -1,4 +1,4 @@
-use Rattle.std.proofs.Common.{◌≡◌, ℕ, ◌≤◌, List, length, Ok, Err, Result, sym, refl, ap, ◌∙◌, subst}
+use Rattle.std.proofs.Common.{◌≡◌, ℕ, ◌≤◌, List, length, Err, Result, sym, ap, ◌∙◌, subst}
 use Rattle.text.specs.Chain.{◌then◌}
 use Rattle.file.specs.File.{most_bytes, whole, file_says}
 use Rattle.file.specs.Given.{given}
@@ -9,7 +9,6 @@ use Rattle.file.specs.View.{View}
 use Rattle.file.specs.declared.fault.Fault.{Fault}
 use Rattle.file.specs.declared.fault.Unread.{Unread}
 use Rattle.file.specs.declared.fault.Unread.TheVariants.{Refused, NoMemory}
-use Rattle.file.specs.declared.tables.Tables.{Tables}
 use Rattle.file.proofs.Law.{short, long, lawful}
 use Rattle.file.proofs.Wholes.{parts_read}
 use Rattle.file.proofs.filling.tables_of.Goals as goal

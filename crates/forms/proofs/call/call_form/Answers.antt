@@ -1,4 +1,4 @@
-use Rattle.std.proofs.Common.{◌≡◌, rules}
+use Rattle.std.proofs.Common.{rules}
 use Rattle.forms.proofs.Letters.{letter_is_first, number_is_first}
 use Rattle.forms.specs.Forms.{call_form}
 use Rattle.text.proofs.Firsts.{at_none}

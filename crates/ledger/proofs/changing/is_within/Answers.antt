@@ -1,4 +1,4 @@
-use Rattle.std.proofs.Common.{◌≡◌, Bool, true, false, ◌&&◌, ℤ, ◌+ℤ◌, sym, refl, ap, ◌∙◌, ap₂, arith, w64, SFits, to_z, of_z, rules}
+use Rattle.std.proofs.Common.{◌≡◌, Bool, true, false, ◌&&◌, ◌+ℤ◌, ap, ◌∙◌, arith, w64, SFits, rules}
 use borrow.Author.Differences.{abs_is}
 use Rattle.std.proofs.lemmas.Int.{ints, to_z-of_z}
 use Rattle.terms.specs.Ranges.{holds_in}

@@ -1,4 +1,4 @@
-use Rattle.std.proofs.Common.{sym, refl, ◌∙◌, rules}
+use Rattle.std.proofs.Common.{sym, refl, ◌∙◌}
 use Rattle.ledger.proofs.Places.{place_here, place_past, place_end}
 use Rattle.ledger.proofs.place.place_of.Goals as goal
 

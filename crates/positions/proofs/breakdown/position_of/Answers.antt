@@ -1,4 +1,4 @@
-use Rattle.std.proofs.Common.{◌≡◌, ◌+◌, ◌-◌, ◌^◌, ◌≤◌, length, take, pos, ◌+ℤ◌, nat_abs, vec_items, fold, sum_by, sym, refl, ap, ◌∙◌, subst, arith, w64, SFits, rules}
+use Rattle.std.proofs.Common.{◌≡◌, ◌-◌, ◌^◌, ◌≤◌, length, take, pos, ◌+ℤ◌, nat_abs, vec_items, fold, sum_by, sym, refl, ap, ◌∙◌, subst, arith, w64, SFits, rules}
 use Rattle.std.proofs.lemmas.Int.{to_z-of_z}
 use Rattle.contracts.specs.Views.{table_of}
 use Rattle.positions.specs.Sums.{sum_to}

@@ -1,4 +1,4 @@
-use Rattle.std.proofs.Common.{◌≡◌, ℕ, List, ◌++◌, vec_items, ap, ◌∙◌}
+use Rattle.std.proofs.Common.{ℕ, List, ◌++◌, vec_items, ap, ◌∙◌}
 use Rattle.bookkeeping.specs.Answers.{answers}
 use Rattle.bookkeeping.specs.declared.entry.Call.{Call}
 use Rattle.session.specs.Sessions.{under_both}

@@ -1,4 +1,4 @@
-use Rattle.std.proofs.Common.{◌≡◌, List, vec_items, Result, sym, refl, ap}
+use Rattle.std.proofs.Common.{List, vec_items, Result, sym, refl, ap}
 use Rattle.terms.specs.declared.refusal.Refusal.{Refusal}
 use Rattle.text.specs.Chain.{◌then◌}
 use Rattle.bookkeeping.specs.declared.entry.Call.{Call}

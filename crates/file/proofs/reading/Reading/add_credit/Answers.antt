@@ -1,9 +1,8 @@
-use Rattle.std.proofs.Common.{◌≡◌, Bool, true, false, cond, List, [], ◌∷◌, ◌++◌, is_ok, Ok, Err, vec_items, Result, sym, refl, ap, ◌∙◌, ap₂}
+use Rattle.std.proofs.Common.{Result, sym, refl, ap}
 use Rattle.terms.specs.declared.refusal.Refusal.{Refusal}
 use Rattle.text.specs.Chain.{◌then◌}
-use Rattle.tariff.specs.Views.{table_in, said_of}
+use Rattle.tariff.specs.Views.{said_of}
 use Rattle.file.specs.Meaning.{view_of}
-use Rattle.file.specs.View.{View, with_tariff, with_opening}
 use Rattle.file.proofs.Rows.{added, taken, same_contracts}
 use Rattle.tariff.specs.Rules.{credit_refusal}
 use Rattle.tariff.specs.declared.rows.Credit.{Credit}

@@ -1,12 +1,9 @@
-use Rattle.std.proofs.Common.{◌≡◌, Bool, true, false, cond, List, [], ◌∷◌, ◌++◌, is_ok, Ok, Err, vec_items, Result, sym, refl, ap, ◌∙◌, ap₂, w32, SFits, rules}
+use Rattle.std.proofs.Common.{◌≡◌, Result, sym, refl, ap, w32, SFits, rules}
 use Rattle.terms.specs.declared.refusal.Refusal.{Refusal}
 use Rattle.text.specs.Chain.{◌then◌}
-use Rattle.tariff.specs.Views.{table_in, said_of}
+use Rattle.tariff.specs.Views.{table_in}
 use Rattle.file.specs.Meaning.{view_of}
-use Rattle.file.specs.View.{View, with_tariff, with_opening}
-use Rattle.file.proofs.Rows.{added, taken, same_contracts}
-use Rattle.calendar.specs.declared.load.Load.{Load}
-use Rattle.contracts.specs.declared.contract.Instrument.{Instrument}
+use Rattle.file.proofs.Rows.{added, taken}
 use Rattle.std.proofs.lemmas.Int.{to_z-of_z}
 use Rattle.contracts.specs.Rules.{answer_by}
 use Rattle.tariff.specs.Rules.{spot_refusal}

@@ -1,4 +1,4 @@
-use Rattle.std.proofs.Common.{◌≡◌, ℕ, ◌+◌, ◌<◌, Bool, true, false, cond, eqb, List, [], ◌∷◌, ◌++◌, length, get_or, Some, None, Ok, Err, vec_items, vec_len, Option, Result, sym, refl, ap, ◌∙◌, subst, ap₂, arith}
+use Rattle.std.proofs.Common.{◌≡◌, ℕ, ◌<◌, Bool, true, false, cond, List, Some, None, Ok, Err, vec_items, Option, sym, refl, ap, ◌∙◌, ap₂, arith}
 use Rattle.std.proofs.lemmas.List.{length-map, length_push, get_or_push}
 use Rattle.std.proofs.lemmas.Bool.{eq-eqb, ne_eqb}
 use Rattle.terms.specs.declared.refusal.Refusal.{Refusal}
@@ -14,7 +14,7 @@ use Rattle.contracts.specs.declared.contract.Instrument.{Instrument}
 use Rattle.text.specs.Chain.{◌then◌}
 use Rattle.tariff.specs.Rules.{prices_refusal}
 use Rattle.tariff.specs.Said.{Said}
-use Rattle.tariff.specs.Views.{table_in, said_of}
+use Rattle.tariff.specs.Views.{table_in}
 use Rattle.tariff.specs.declared.rows.Prices.{Prices}
 use Rattle.file.specs.Meaning.{view_of}
 use Rattle.file.specs.Says.{by, lacks_hours, plus_contract_row, contract_by}

@@ -1,7 +1,7 @@
-use Rattle.std.proofs.Common.{◌≡◌, List, [], vec_items, ap, ◌∙◌}
+use Rattle.std.proofs.Common.{List, vec_items, ap, ◌∙◌}
 use Rattle.tariff.specs.Views.{table_in, said_of}
 use Rattle.bookkeeping.specs.declared.entry.Call.{Call}
-use Rattle.file.specs.View.{View, no_view, with_tariff, with_opening, with_calls}
+use Rattle.file.specs.View.{no_view, with_tariff, with_calls}
 use Rattle.file.proofs.OfOpening.{no_accounts, rows_empty, no_limits, opened_alike}
 use Rattle.file.proofs.reading.Reading.of.Goals as goal
 

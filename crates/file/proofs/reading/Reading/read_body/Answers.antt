@@ -1,8 +1,8 @@
-use Rattle.std.proofs.Common.{◌≡◌, ℕ, suc, ◌+◌, ◌-◌, List, Ok, Err, Result, sym, ap, ◌∙◌, arith}
+use Rattle.std.proofs.Common.{◌≡◌, ℕ, suc, ◌+◌, ◌-◌, List, Err, Result, sym, ap, ◌∙◌, arith}
 use Rattle.file.specs.Meaning.{view_of, Body}
 use Rattle.file.specs.Says.{line_says}
 use Rattle.file.specs.View.{View}
-use Rattle.file.specs.Walk.{line_at, body_of}
+use Rattle.file.specs.Walk.{body_of}
 use Rattle.file.specs.declared.fault.Fault.{Fault}
 use Rattle.file.specs.declared.fault.Unread.{Unread}
 use Rattle.file.specs.declared.fault.Unread.TheVariants.{Refused, NoMemory}

@@ -1,4 +1,4 @@
-use Rattle.std.proofs.Common.{◌≡◌, sym, ◌∙◌}
+use Rattle.std.proofs.Common.{sym, ◌∙◌}
 use Rattle.tariff.specs.Views.{table_in}
 use Rattle.file.specs.Meaning.{view_of}
 use Rattle.file.proofs.OfOpening.{no_accounts, rows_empty, no_limits, over_table, same_date, opened_alike}

@@ -1,8 +1,8 @@
-use Rattle.std.proofs.Common.{◌≡◌, false, List, [], vec_items, sym, refl, ap, ◌∙◌}
+use Rattle.std.proofs.Common.{false, List, vec_items, refl, ap, ◌∙◌}
 use Rattle.contracts.specs.Views.{empty_table}
 use Rattle.bookkeeping.specs.declared.entry.Call.{Call}
 use Rattle.tariff.specs.Views.{table_in, said_of, no_rows}
-use Rattle.file.specs.View.{View, no_view, with_tariff, with_opening, with_calls}
+use Rattle.file.specs.View.{no_view, with_tariff, with_calls}
 use Rattle.file.proofs.OfDraft.{no_instruments, tariff_alike}
 use Rattle.file.proofs.OfOpening.{no_accounts, rows_empty, no_limits, over_table, same_date, opened_alike}
 use Rattle.file.proofs.tables.Tables.zero.Goals as goal

@@ -1,4 +1,4 @@
-use Rattle.std.proofs.Common.{◌≡◌, ℕ, List, [], ◌∷◌, sym, ap, ◌∙◌}
+use Rattle.std.proofs.Common.{ℕ, [], ◌∷◌, sym, ap, ◌∙◌}
 use Rattle.bookkeeping.specs.Answers.{taken}
 use Rattle.bookkeeping.specs.declared.entry.Call.{Call}
 use Rattle.ledger.specs.Meaning.{state_of}

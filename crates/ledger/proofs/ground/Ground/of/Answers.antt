@@ -1,11 +1,10 @@
-use Rattle.std.proofs.Common.{◌≡◌, ℕ, ◌+◌, ◌*◌, true, ◌&&◌, List, length, get_or, replicate, vec_items, vec_len, sym, refl, ap, ◌∙◌, subst, ap₂, arith}
+use Rattle.std.proofs.Common.{◌≡◌, ℕ, ◌+◌, ◌*◌, List, get_or, replicate, vec_items, vec_len, sym, refl, ap, ◌∙◌, subst, ap₂, arith}
 use Rattle.terms.specs.Amounts.{no_amount}
 use Rattle.terms.specs.declared.amounts.Amount.{Amount}
 use Rattle.bookkeeping.specs.State.{are_apart, is_account, is_listing, account_place, listing_place}
 use Rattle.bookkeeping.specs.declared.entry.Account.{Account}
 use Rattle.bookkeeping.specs.declared.entry.Listing.{Listing}
-use Rattle.opening.specs.Rows.{amount_in}
-use Rattle.ledger.specs.Places.{place_of, amount_at, CellsWithin}
+use Rattle.ledger.specs.Places.{amount_at, CellsWithin}
 use Rattle.ledger.proofs.Untraded.{all_blank, untraded_within}
 use Rattle.ledger.proofs.ground.Ground.of.Goals as goal
 

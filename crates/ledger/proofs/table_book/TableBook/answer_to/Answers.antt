@@ -1,4 +1,4 @@
-use Rattle.std.proofs.Common.{◌≡◌, not, Ok, sym, ap, ◌∙◌}
+use Rattle.std.proofs.Common.{not, Ok, sym, ap, ◌∙◌}
 use Rattle.ledger.specs.Meaning.{state_of}
 use Rattle.ledger.proofs.Conditions.{none_over_limit, answer_unfit, answer_fit}
 use Rattle.ledger.proofs.OfBook.{entries_of, tied_of, sound_of, unfit_of}

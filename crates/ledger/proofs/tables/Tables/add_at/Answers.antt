@@ -1,4 +1,4 @@
-use Rattle.std.proofs.Common.{◌≡◌, ℕ, ◌+◌, ◌^◌, ◌<◌, true, List, length, set, vec_items, vec_len, sym, refl, ap, ◌∙◌, subst, ap₂, arith, rules}
+use Rattle.std.proofs.Common.{◌≡◌, ◌+◌, ◌^◌, ◌<◌, true, length, set, vec_items, sym, ap, ◌∙◌, subst, arith}
 use Rattle.terms.specs.Amounts.{amount_plus, amount_size}
 use Rattle.terms.specs.declared.amounts.Amount.{Amount}
 use Rattle.bookkeeping.specs.Cells.{trades_within}

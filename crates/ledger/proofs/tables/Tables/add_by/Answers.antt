@@ -1,6 +1,6 @@
-use Rattle.std.proofs.Common.{◌≡◌, ℕ, ◌<◌, true, List, length, set, vec_items, vec_len, Option, sym, ap, ◌∙◌, subst, arith}
+use Rattle.std.proofs.Common.{◌≡◌, ℕ, true, List, vec_items, Option, sym, ap, ◌∙◌, subst}
 use Rattle.terms.specs.declared.amounts.Amount.{Amount}
-use Rattle.ledger.specs.Places.{place_of, goes, Shifted}
+use Rattle.ledger.specs.Places.{goes, Shifted}
 use Rattle.ledger.specs.Views.{bears_by, bears_at}
 use Rattle.ledger.proofs.AtPlace.{place_low}
 use Rattle.ledger.proofs.Shifting.{one_more, listed_borne}

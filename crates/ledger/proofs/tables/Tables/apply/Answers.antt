@@ -1,12 +1,11 @@
-use Rattle.std.proofs.Common.{◌≡◌, true, List, vec_items, sym, ap, ◌∙◌, subst}
+use Rattle.std.proofs.Common.{List, vec_items, ap, ◌∙◌, subst}
 use Rattle.std.proofs.lemmas.Bool.{and_parts}
 use Rattle.terms.specs.Amounts.{amount_minus}
 use Rattle.terms.specs.declared.amounts.Amount.{Amount}
 use Rattle.bookkeeping.specs.declared.entry.Account.{Account}
 use Rattle.bookkeeping.specs.declared.entry.Listing.{Listing}
 use Rattle.ledger.specs.Places.{goes, Shifted}
-use Rattle.ledger.specs.Views.{bears_by, Kept}
-use Rattle.ledger.specs.declared.tables.Tables.{Tables}
+use Rattle.ledger.specs.Views.{bears_by}
 use Rattle.ledger.proofs.Shifting.{both_more, still_bears}
 use Rattle.ledger.proofs.tables.Tables.apply.Goals as goal
 

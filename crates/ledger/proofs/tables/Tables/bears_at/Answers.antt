@@ -1,8 +1,8 @@
-use Rattle.std.proofs.Common.{◌≡◌, ◌+◌, ◌^◌, ◌≤◌, nat_abs, vec_items, sym, ap, ◌∙◌, subst, arith, rules}
+use Rattle.std.proofs.Common.{◌+◌, ◌^◌, ◌≤◌, nat_abs, vec_items, sym, ap, ◌∙◌, subst, arith}
 use Rattle.terms.specs.Amounts.{amount_size, amount_plus}
 use Rattle.terms.specs.declared.amounts.Amount.{Amount}
 use Rattle.ledger.specs.Places.{place_of}
-use Rattle.ledger.specs.Views.{is_in, opening, traded}
+use Rattle.ledger.specs.Views.{is_in, traded}
 use Rattle.ledger.proofs.Places.{is_there}
 use Rattle.ledger.proofs.Ranges.{plus_size}
 use Rattle.ledger.proofs.AtPlace.{read_opening, read_traded, sizes_in}

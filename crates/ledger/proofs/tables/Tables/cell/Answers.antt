@@ -1,10 +1,9 @@
-use Rattle.std.proofs.Common.{◌≡◌, Bool, true, cond, get_or, Ok, Err, vec_items, vec_len, sym, refl, ap, ◌∙◌, subst, ap₂, arith}
+use Rattle.std.proofs.Common.{◌≡◌, Bool, cond, get_or, Ok, Err, vec_items, vec_len, sym, ap, ◌∙◌, ap₂, arith}
 use Rattle.std.proofs.lemmas.List.{get_or_read_under}
 use Rattle.terms.specs.Amounts.{no_amount}
 use Rattle.terms.specs.declared.amounts.Amount.{Amount}
 use Rattle.terms.specs.declared.refusal.Refusal.TheVariants.{NotInBook}
 use Rattle.bookkeeping.specs.State.{kind_of, cell_within}
-use Rattle.bookkeeping.specs.declared.entry.Cell.{Cell}
 use Rattle.ledger.specs.Places.{place_of, is_listed, amount_at, cell_at}
 use Rattle.ledger.proofs.Places.{is_there}
 use Rattle.ledger.proofs.tables.Tables.cell.Goals as goal

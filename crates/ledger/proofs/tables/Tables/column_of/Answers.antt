@@ -1,4 +1,4 @@
-use Rattle.std.proofs.Common.{◌<◌, vec_items, vec_len, arith}
+use Rattle.std.proofs.Common.{vec_items, vec_len, arith}
 use Rattle.bookkeeping.specs.State.{is_listing, listing_place}
 use Rattle.ledger.proofs.Places.{found_listing, found_below, listing_within}
 use Rattle.ledger.proofs.tables.Tables.column_of.Goals as goal

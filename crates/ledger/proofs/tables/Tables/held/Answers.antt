@@ -1,4 +1,4 @@
-use Rattle.std.proofs.Common.{◌≡◌, ℕ, ◌-◌, ◌≤◌, Bool, true, cond, length, take, ℤ, pos, ◌+ℤ◌, nat_abs, Ok, Err, vec_items, vec_len, fold, sum_by, sym, refl, ap, ◌∙◌, subst, arith, w64, SFits, rules}
+use Rattle.std.proofs.Common.{◌≡◌, ℕ, ◌-◌, ◌≤◌, Bool, cond, length, take, ℤ, pos, ◌+ℤ◌, nat_abs, Ok, Err, vec_items, fold, sum_by, sym, refl, ap, ◌∙◌, subst, arith, w64, SFits, rules}
 use Rattle.std.proofs.lemmas.List.{take_all}
 use Rattle.std.proofs.lemmas.Int.{to_z-of_z}
 use Rattle.terms.specs.declared.refusal.Refusal.TheVariants.{NotInBook}

@@ -1,4 +1,4 @@
-use Rattle.std.proofs.Common.{◌≡◌, ltb, get_or, vec_items, vec_len, sym, ap, ◌∙◌}
+use Rattle.std.proofs.Common.{ltb, get_or, vec_items, sym, ap, ◌∙◌}
 use Rattle.bookkeeping.specs.State.{is_listing, listing_place}
 use Rattle.bookkeeping.specs.declared.entry.Listing.{Listing}
 use Rattle.ledger.proofs.Places.{is_there, not_there, over_at_is, over_none}

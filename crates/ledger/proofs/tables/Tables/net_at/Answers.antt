@@ -1,16 +1,11 @@
-use Rattle.std.proofs.Common.{◌≡◌, ℕ, ◌+◌, ◌*◌, ◌<◌, ◌≤◌, Bool, true, false, cond, length, get_or, ℤ, pos, ◌+ℤ◌, nat_abs, vec_items, vec_len, sym, refl, ap, ◌∙◌, subst, ap₂, arith, w64, SFits, to_z, of_z, rules}
+use Rattle.std.proofs.Common.{◌≡◌, ℕ, ◌+◌, ◌*◌, ◌≤◌, Bool, true, false, cond, get_or, ℤ, pos, ◌+ℤ◌, nat_abs, vec_items, vec_len, sym, refl, ap, ◌∙◌, subst, ap₂, arith, w64, SFits, to_z, of_z, rules}
 use borrow.Author.Differences.{abs_is}
-use Rattle.std.proofs.lemmas.Nat.{mul-add-lt}
 use Rattle.std.proofs.lemmas.List.{get_or_read_under}
 use Rattle.std.proofs.lemmas.Int.{ints, to_z-of_z}
-use Rattle.std.proofs.lemmas.Bool.{and_from}
 use Rattle.terms.specs.declared.amounts.Amount.{Amount}
 use Rattle.bookkeeping.specs.Limits.{is_of}
-use Rattle.bookkeeping.specs.State.{is_account, is_listing, account_place, listing_place}
-use Rattle.bookkeeping.specs.declared.entry.Account.{Account}
-use Rattle.ledger.specs.Places.{place_of}
 use Rattle.ledger.specs.declared.tables.Tables.{Tables}
-use Rattle.ledger.specs.Views.{is_in, opening, traded, net_of, nobody}
+use Rattle.ledger.specs.Views.{net_of, nobody}
 use Rattle.ledger.proofs.AtPlace.{read_opening, read_traded, sizes_in, Spot, spot}
 use Rattle.ledger.proofs.tables.Tables.net_at.Goals as goal
 

@@ -1,4 +1,4 @@
-use Rattle.std.proofs.Common.{◌<◌, vec_items, arith}
+use Rattle.std.proofs.Common.{vec_items, arith}
 use Rattle.bookkeeping.specs.State.{is_account, account_place}
 use Rattle.ledger.proofs.Places.{found_account, found_below, account_is_within}
 use Rattle.ledger.proofs.tables.Tables.row_of.Goals as goal

@@ -1,4 +1,4 @@
-use Rattle.std.proofs.Common.{◌≡◌, ℕ, ◌+◌, ◌*◌, ◌≤◌, true, false, leb, List, [], ◌∷◌, ◌++◌, length, is_some, vec_items, vec_len, sym, refl, ap, subst, add-mul, arith, rules}
+use Rattle.std.proofs.Common.{◌≡◌, ℕ, ◌*◌, ◌≤◌, true, false, leb, List, [], ◌∷◌, ◌++◌, length, is_some, vec_items, vec_len, sym, refl, ap, subst, add-mul, arith, rules}
 use Rattle.std.proofs.lemmas.Bool.{lt-leb, not_from_true}
 use Rattle.terms.specs.Amounts.{no_amount}
 use Rattle.bookkeeping.specs.State.{is_account, are_apart}

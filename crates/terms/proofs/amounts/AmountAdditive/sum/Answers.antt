@@ -1,4 +1,4 @@
-use Rattle.std.proofs.Common.{◌+◌, ◌+ℤ◌, arith, w64, SFits, rules}
+use Rattle.std.proofs.Common.{◌+ℤ◌, arith, w64, SFits, rules}
 use borrow.Author.Differences.{ints, abs_is}
 use Rattle.std.proofs.lemmas.Int.{to_z-of_z}
 use Rattle.terms.proofs.amounts.AmountAdditive.sum.Goals as goal
