@@ -1,6 +1,6 @@
 -- Numbers of a file in narrower types: one that does not fit becomes one that is out of its range.
 use Rattle.std.specs.Prelude.{◌≡◌, ℕ, ◌-◌, ◌^◌, cond, List, [], ◌∷◌, ℤ, pos, negsuc, nat_le, nat_lt}
-use Rattle.std.specs.List.{AllByRecursion as All}
+use Rattle.std.specs.List.{AllByRecursion}
 use Rattle.terms.specs.Ranges.{holds_in}
 use Rattle.terms.specs.declared.bounds.Bounds.{Bounds}
 use Rattle.terms.specs.declared.bounds.Bounds.TheVariants.{Price, Position, Account, Contract, Instrument, Agent, Group, Entry, Delta, PriceRange, ExtraPercent, CreditPercent, ConcentrationLimit, DayOffset, MonthOffset}
@@ -34,7 +34,7 @@ in_signed32 (negsuc n) = cond (nat_lt n (2 ^ 31)) (negsuc n) (pos (2 ^ 31 - 1))
 -- ---- what is kept
 -- each of the ranges holds the one number exactly when it holds the other
 abbrev pub SameIn : List Bounds → ℤ → ℤ → Type 0
-SameIn bs m n = All (λ b. holds_in b m ≡ holds_in b n) bs
+SameIn bs m n = AllByRecursion (λ b. holds_in b m ≡ holds_in b n) bs
 
 -- the ranges that each width serves
 abbrev pub small : List Bounds

@@ -2,12 +2,12 @@
 use Rattle.std.specs.Prelude.{◌≡◌, ℕ, ◌<◌, cond, List, [], ◌∷◌, ◌++◌, map, length, Some, None, Option, ◌==◌, ◌≢◌}
 use Rattle.std.specs.Borrow.{Bor}
 use Rattle.std.specs.Option.{option_map}
-use Rattle.std.specs.List.{join_with_byte, AllByRecursion as All}
+use Rattle.std.specs.List.{join_with_byte, AllByRecursion}
 use Rattle.text.specs.Fields.{Piece, piece_of}
 
 -- none of the bytes is c
 abbrev pub Lacks : ℕ → List ℕ → Type 0
-Lacks c bs = All (λ b. b ≢ c) bs
+Lacks c bs = AllByRecursion (λ b. b ≢ c) bs
 
 -- ---- lines
 -- the first line and what follows it, where w is the part of the line that has been read
@@ -45,5 +45,5 @@ fields_of line = map piece_of (words_of line)
 -- the words with one space between each two are the line, and no word has a space
 pub record Spaced (line : List ℕ) (words : List (List ℕ)) : Type 0 where
   pub whole : join_with_byte 32 words ≡ line
-  pub apart : All (Lacks 32) words
+  pub apart : AllByRecursion (Lacks 32) words
   pub some : 0 < length words
