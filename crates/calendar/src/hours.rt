@@ -15,13 +15,13 @@ pub fn hours_of_day<P: Profile>(profile: &P, day: Day) -> u32
 }
 
 // The delivery hours of all days of a period.
+#[tactic(auto, unfolding(crate::specs::Hours::hours_from))]
 pub fn hours_of_period<P: Profile>(profile: &P, period: Period) -> u32
     ensures value { result ≡ hours_between (P.Profile.mask profile.now) period.first.number period.last.number }
     ensures bound { result ≤ 25 * (period.last.number - period.first.number + 1) }
 {
     let mut sum = 0;
-    for i in 0..period.days() {
-        let number = period.first.number + i;
+    for number in period.first.number..=period.last.number {
         sum += hours_of_day(profile, Day { number });
     }
     sum

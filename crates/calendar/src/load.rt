@@ -17,10 +17,12 @@ pub enum Load {
     Gas,
 }
 
-impl Load {
-    pub fn from_letter(letter: u8) -> Result<Load, Refusal>
-        ensures { result ≡ load_of letter }
-    {
+impl TryFrom<u8> for Load {
+    type Error = Refusal;
+
+    ghost try_from_gives = { λ letter r. r ≡ load_of letter };
+
+    fn try_from(letter: u8) -> Result<Load, Refusal> {
         match letter {
             b'B' => Ok(Load::Base),
             b'P' => Ok(Load::Peak),
@@ -28,12 +30,13 @@ impl Load {
             _ => Err(Refusal::Form),
         }
     }
+}
 
-    pub fn letter(self) -> u8
-        ensures value { result ≡ load_letter self }
-        ensures law { load_of result ≡ Ok self }
-    {
-        match self {
+impl From<Load> for u8 {
+    ghost from_gives = { λ load letter. (letter ≡ load_letter load) × (load_of letter ≡ Ok load) };
+
+    fn from(load: Load) -> u8 {
+        match load {
             Load::Base => b'B',
             Load::Peak => b'P',
             Load::Gas => b'G',
@@ -44,6 +47,7 @@ impl Load {
 impl Profile for Load {
     ghost mask = { load_mask };
 
+    #[tactic(auto, using(crate::proofs::Masks::mask_is, crate::proofs::Masks::hour_by_hour))]
     fn mask(&self, day: Day) -> u32
         ensures value { result ≡ load_mask self.now day.number }
         ensures bound { result < 2 ^ 25 }
@@ -83,11 +87,11 @@ fn peak_mask(day: Day) -> u32
 }
 
 // Whether a day is the last Sunday of a month of the year, of which January is 0.
+#[tactic(auto, using(crate::proofs::Parts::last_week_is), unfolding(crate::specs::Loads::last_sunday_of))]
 fn is_last_sunday_of(day: Day, month: u16) -> bool
     ensures { result ≡ last_sunday_of month day.number }
 {
-    match day.weekday() {
-        Weekday::Sunday => day.month() % 12 == month && day.last_of_month().number - day.number < 7,
-        _ => false,
-    }
+    day.weekday() == Weekday::Sunday
+        && day.month() % 12 == month
+        && day.last_of_month().number - day.number < 7
 }

@@ -1,6 +1,6 @@
 ghost use Rattle.std.specs.Prelude.{◌≡◌, ◌+◌, ◌-◌, IfOk, Ok};
 ghost use Rattle.days.specs.Days.{day_within, day_found};
-ghost use Rattle.calendar.specs.Periods.{maturity_of, maturity_letter, alike, starts_on, last_of, period_of, period_in, MadeOf, covers};
+ghost use Rattle.calendar.specs.Periods.{maturity_of, maturity_letter, starts_on, last_of, period_of, period_in, MadeOf, covers};
 
 use crate::period::Period;
 use days::{Day, Weekday};
@@ -24,10 +24,12 @@ pub enum Maturity {
     Year,
 }
 
-impl Maturity {
-    pub fn from_letter(letter: u8) -> Result<Maturity, Refusal>
-        ensures { result ≡ maturity_of letter }
-    {
+impl TryFrom<u8> for Maturity {
+    type Error = Refusal;
+
+    ghost try_from_gives = { λ letter r. r ≡ maturity_of letter };
+
+    fn try_from(letter: u8) -> Result<Maturity, Refusal> {
         match letter {
             b'D' => Ok(Maturity::SingleDay),
             b'E' => Ok(Maturity::Weekend),
@@ -41,12 +43,13 @@ impl Maturity {
             _ => Err(Refusal::Form),
         }
     }
+}
 
-    pub fn letter(self) -> u8
-        ensures value { result ≡ maturity_letter self }
-        ensures law { maturity_of result ≡ Ok self }
-    {
-        match self {
+impl From<Maturity> for u8 {
+    ghost from_gives = { λ maturity letter. (letter ≡ maturity_letter maturity) × (maturity_of letter ≡ Ok maturity) };
+
+    fn from(maturity: Maturity) -> u8 {
+        match maturity {
             Maturity::SingleDay => b'D',
             Maturity::Weekend => b'E',
             Maturity::Workdays => b'B',
@@ -58,15 +61,12 @@ impl Maturity {
             Maturity::Year => b'Y',
         }
     }
+}
 
-    pub fn is(self, other: Maturity) -> bool
-        ensures { result ≡ alike self other }
-    {
-        self.letter() == other.letter()
-    }
-
+impl Maturity {
     // The period from a first day. Refused where the day is no first day for the maturity, or the period would end
     // after 31 December 2099.
+    #[tactic(auto, using(crate::proofs::Parts::last_after, crate::proofs::Parts::made_of, crate::proofs::Parts::within_some))]
     pub fn period(self, first: Day) -> Result<Period, Refusal>
         ensures value { period_in result ≡ period_of self first.number }
         ensures law { IfOk result (λ p. MadeOf self p.first.number p.last.number) }
@@ -74,10 +74,8 @@ impl Maturity {
         if !self.starts_on(first) {
             return Err(Refusal::DateRule);
         }
-        match self.last_from(first) {
-            Some(last) => Ok(Period { first, last }),
-            None => Err(Refusal::DateRule),
-        }
+        let last = self.last_from(first).ok_or(Refusal::DateRule)?;
+        Ok(Period { first, last })
     }
 
     // Whether a day may be the first.
@@ -86,12 +84,12 @@ impl Maturity {
     {
         match self {
             Maturity::SingleDay | Maturity::RestOfMonth => true,
-            Maturity::Weekend => matches!(day.weekday(), Weekday::Saturday),
-            Maturity::Workdays | Maturity::Week => matches!(day.weekday(), Weekday::Monday),
-            Maturity::Month => day.first_of_month().number == day.number,
-            Maturity::Quarter => day.first_of_month().number == day.number && day.month() % 3 == 0,
-            Maturity::Season => day.first_of_month().number == day.number && day.month() % 6 == 3,
-            Maturity::Year => day.first_of_month().number == day.number && day.month() % 12 == 0,
+            Maturity::Weekend => day.weekday() == Weekday::Saturday,
+            Maturity::Workdays | Maturity::Week => day.weekday() == Weekday::Monday,
+            Maturity::Month => day.first_of_month() == day,
+            Maturity::Quarter => day.first_of_month() == day && day.month() % 3 == 0,
+            Maturity::Season => day.first_of_month() == day && day.month() % 6 == 3,
+            Maturity::Year => day.first_of_month() == day && day.month() % 12 == 0,
         }
     }
 
@@ -122,6 +120,6 @@ impl Period {
     pub fn covers(self, day: Day) -> bool
         ensures { result ≡ covers self.first.number self.last.number day.number }
     {
-        self.first.number <= day.number && day.number <= self.last.number
+        self.first <= day && day <= self.last
     }
 }

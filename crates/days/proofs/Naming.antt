@@ -1,7 +1,8 @@
 -- A day goes by one number, and other numbers name no day.
-use Rattle.std.proofs.Common.{◌≡◌, ℕ, ◌+◌, ◌-◌, ◌*◌, ◌/◌, ◌%◌, ◌<◌, ◌≤◌, true, false, ◌&&◌, leb, ℤ, pos, negsuc, nat_abs, Ok, Err, sym, refl, ap, ◌∙◌, inl, inr, arith}
+use Rattle.std.proofs.Common.{◌≡◌, ℕ, ◌+◌, ◌-◌, ◌*◌, ◌/◌, ◌%◌, ◌<◌, ◌≤◌, true, false, ◌&&◌, leb, ℤ, pos, negsuc, nat_abs, Ok, Err, Result, sym, refl, ap, ◌∙◌, inl, inr, arith}
 use Rattle.std.specs.Int.{FitsUnsignedBits}
-use Rattle.std.proofs.lemmas.Bool.{cases_lt, cases_Bool, and_parts, and_from, leb-true, le-leb, cond-true, cond-false}
+use Rattle.std.specs.Result.{OkIff, MatchResult, is_ok}
+use Rattle.std.proofs.lemmas.Bool.{false≢true, cases_lt, cases_Bool, and_parts, and_from, leb-true, le-leb, cond-true, cond-false}
 use Rattle.terms.specs.declared.refusal.Refusal.{Refusal}
 use Rattle.terms.specs.declared.refusal.Refusal.TheVariants.{OutOfRange}
 use Rattle.days.specs.Months.{month_of, month_start, month_length}
@@ -152,3 +153,12 @@ pub past_range : (z : ℤ) → (FitsUnsignedBits 32 z → ⊥) → day_of z ≡ 
 unfolding day_of
 past_range (pos m) never = elim (cases_lt m 4294967296) [ inl a ↦ absurd (never a) | inr a ↦ too_large m a ]
 past_range (negsuc m) never = refl
+
+-- what a mapped error tells of the try before
+pub tried_ok : {E F : Type 0} (r : Result ℕ E) (s : Result ℕ F) (n v : ℕ) (P : Type 0) (Q : E → Type 0) → OkIff r P v → MatchResult r (λ x. s ≡ Ok x) Q → is_ok s ≡ is_ok r → s ≡ Ok n → P × (n ≡ v)
+tried_ok (Ok x) s n v P Q o m same is = (o.0, cc (o.1))
+tried_ok (Err e) s n v P Q o m same is = absurd (false≢true (sym same ∙ ap is_ok is))
+
+pub tried_err : {E F : Type 0} (r : Result ℕ E) (s : Result ℕ F) (f : F) (v : ℕ) (P : Type 0) → OkIff r P v → is_ok s ≡ is_ok r → s ≡ Err f → P → ⊥
+tried_err (Ok x) s f v P o same is p = false≢true (sym (ap is_ok is) ∙ same)
+tried_err (Err e) s f v P o same is p = o p

@@ -1,12 +1,9 @@
 -- The months tile the days.
-use Rattle.std.proofs.Common.{◌≡◌, ℕ, zero, suc, ◌+◌, ◌-◌, ◌*◌, ◌/◌, ◌%◌, ◌<◌, ◌≤◌, Bool, true, ◌&&◌, ltb, leb, List, [], ◌∷◌, length, get_or, drop, sym, refl, ap, ◌∙◌, subst, inl, inr, add-one, arith}
+use Rattle.std.proofs.Common.{◌≡◌, ℕ, zero, suc, ◌+◌, ◌-◌, ◌*◌, ◌/◌, ◌%◌, ◌<◌, ◌≤◌, Bool, true, ◌&&◌, ltb, leb, List, [], ◌∷◌, length, get_or, take, drop, sum, sym, refl, ap, ◌∙◌, subst, inl, inr, add-one, arith}
 use Rattle.std.proofs.lemmas.List.{at_drop_more, at_drop_all}
+use Rattle.std.proofs.lemmas.List.Sums.{sum_by-cons, sum_by-take-le}
 use Rattle.std.proofs.lemmas.Bool.{cases_lt, cond-true, cond-false, lt-ltb, le-ltb, and_parts, leb-true}
 use Rattle.days.specs.Months.{lengths, month_from, start_from, month_of, month_length, month_start, MonthsTile}
-
-abbrev whole : List ℕ → ℕ
-whole [] = 0
-whole (n ∷ ns) = n + whole ns
 
 here : (n : ℕ) (ns : List ℕ) (r : ℕ) → r < n → month_from (n ∷ ns) r ≡ 0
 unfolding month_from
@@ -22,13 +19,13 @@ pub record Holds (ns : List ℕ) (r k : ℕ) : Type 0 where
   pub from : start_from ns k ≤ r
   pub to : r < start_from ns k + get_or ns k 0
 
-held : (ns : List ℕ) (r : ℕ) → r < whole ns → Holds ns r (month_from ns r)
+held : (ns : List ℕ) (r : ℕ) → r < sum ns → Holds ns r (month_from ns r)
 unfolding start_from
 held [] r h = absurd (omega arith)
 held (n ∷ ns) r h = elim (cases_lt r n) [
   | inl a ↦ subst (Holds (n ∷ ns) r) (sym (here n ns r a)) (record { few = omega arith; from = omega arith; to = omega arith })
   | inr a ↦ (
-      let i = held ns (r - n) (omega arith) in
+      let i = held ns (r - n) (omega (arith, sum_by-cons (λ x. x) n ns)) in
       let f = i.few in
       let x = i.from in
       let y = i.to in
@@ -42,7 +39,7 @@ start_next (n ∷ ns) zero h = omega arith
 start_next (n ∷ ns) (suc k) h = let i = start_next ns k (omega arith) in omega arith
 
 -- ---- over the four years
-four_years : (whole lengths ≡ 1461) × (length lengths ≡ 48) × (start_from lengths 0 ≡ 0) × (start_from lengths 47 + 31 ≡ 1461)
+four_years : (sum lengths ≡ 1461) × (length lengths ≡ 48) × (start_from lengths 0 ≡ 0) × (start_from lengths 47 + 31 ≡ 1461)
 unfolding lengths start_from
 four_years = (refl, refl, refl, refl)
 
@@ -65,27 +62,31 @@ unfolding month_length
 length_at k h = let e : k % 48 ≡ k = omega arith in ap (λ i. get_or lengths i 0) e
 
 -- the months from i on: day `left` of them lies in the first, or in a later one
-pub from_here : (i left : ℕ) → i < 48 → left < month_length i → month_from (drop i lengths) left ≡ 0
+pub from_here : (i left : ℕ) → i < 48 → left < get_or lengths i 0 → month_from (drop i lengths) left ≡ 0
 from_here i left h l =
     let f = four_years in
-    let e = length_at i h in
-    at_drop_more (λ ns. month_from ns left) lengths i 0 (omega arith) ∙ here (get_or lengths i 0) (drop (i + 1) lengths) left (omega arith)
+    at_drop_more (λ ns. month_from ns left) lengths i 0 (omega arith) ∙ here (get_or lengths i 0) (drop (i + 1) lengths) left l
 
-pub from_later : (i left : ℕ) → i < 48 → month_length i ≤ left → month_from (drop i lengths) left ≡ suc (month_from (drop (i + 1) lengths) (left - month_length i))
+pub from_later : (i left : ℕ) → i < 48 → get_or lengths i 0 ≤ left → month_from (drop i lengths) left ≡ suc (month_from (drop (i + 1) lengths) (left - get_or lengths i 0))
 from_later i left h l =
     let f = four_years in
-    let e = length_at i h in
-    at_drop_more (λ ns. month_from ns left) lengths i 0 (omega arith) ∙ later (get_or lengths i 0) (drop (i + 1) lengths) left (omega arith)
-    ∙ ap (λ n. suc (month_from (drop (i + 1) lengths) (left - n))) (sym e)
+    at_drop_more (λ ns. month_from ns left) lengths i 0 (omega arith) ∙ later (get_or lengths i 0) (drop (i + 1) lengths) left l
 
 pub from_none : (i left : ℕ) → 48 ≤ i → month_from (drop i lengths) left ≡ 0
 unfolding month_from
 from_none i left h = let f = four_years in at_drop_all (λ ns. month_from ns left) lengths i (omega arith)
 
-pub start_none : start_from lengths 0 ≡ 0
-start_none = four_years.2
+-- the first day of a month is the sum of the months before
+pub start_sum : (ns : List ℕ) (k : ℕ) → start_from ns k ≡ sum (take k ns)
+unfolding start_from
+start_sum ns zero = refl
+start_sum [] (suc k) = refl
+start_sum (n ∷ ns) (suc k) = omega (arith, start_sum ns k, sum_by-cons (λ x. x) n (take k ns))
 
-pub start_more : (k : ℕ) → k < 48 → start_from lengths (k + 1) ≡ start_from lengths k + month_length k
+pub start_small : (k : ℕ) → start_from lengths k ≤ 1461
+start_small k = let f = four_years in omega (arith, start_sum lengths k, sum_by-take-le (λ x. x) lengths k)
+
+start_more : (k : ℕ) → k < 48 → start_from lengths (k + 1) ≡ start_from lengths k + month_length k
 start_more k h =
     let f = four_years in
     let e = length_at k h in

@@ -8,22 +8,20 @@ use crate::weekday::Weekday;
 use terms::Refusal;
 
 impl Day {
-    // The day that a number YYYYMMDD names.
+    // The day that a number YYYYMMDD names. By name and no TryFrom, since a day is also numbered from 1 January 2000.
     pub fn from_number(number: i64) -> Result<Day, Refusal>
         ensures value { day_in result ≡ day_of number }
         ensures law { Named number (day_in result) }
     {
-        match u32::try_from(number) {
-            Ok(n) => Day::from_date(n / 10_000, n / 100 % 100, n % 100),
-            Err(_) => Err(Refusal::OutOfRange),
-        }
+        let number = u32::try_from(number).map_err(|_| Refusal::OutOfRange)?;
+        Day::from_date(number / 10_000, number / 100 % 100, number % 100)
     }
 
     // The day of a month, counted from 1, of a year.
     fn from_date(year: u32, month: u32, day: u32) -> Result<Day, Refusal>
         ensures { day_in result ≡ day_at year month day }
     {
-        if year < 2000 || year > 2099 || month < 1 || month > 12 || day < 1 {
+        if !(2000..=2099).contains(&year) || !(1..=12).contains(&month) || day < 1 {
             return Err(Refusal::OutOfRange);
         }
         let month = (12 * (year - 2000) + (month - 1)) as u16;
@@ -36,7 +34,7 @@ impl Day {
         })
     }
 
-    // The number YYYYMMDD of the day.
+    // The number YYYYMMDD of the day. By name, as above.
     pub fn to_number(self) -> u32
         ensures value { result ≡ numbered self.number }
         ensures law { day_of (pos result) ≡ Ok self.number }

@@ -15,7 +15,7 @@ pub(crate) fn length_of(month: u16) -> u16
     ensures value { result ≡ month_length month }
     ensures bound { result ≤ 31 }
 {
-    LENGTHS[month as usize % 48]
+    LENGTHS[usize::from(month) % 48]
 }
 
 // Which of the 48 months has a day of the four years.
@@ -24,12 +24,11 @@ fn month_in_cycle(day: u16) -> u16
     ensures bound { result ≤ 48 }
 {
     let mut left = day;
-    for i in 0..48 {
-        let length = length_of(i);
-        if left < length {
-            return i;
+    for (month, length) in LENGTHS.iter().enumerate() {
+        if left < *length {
+            return month as u16;
         }
-        left -= length;
+        left -= *length;
     }
     48
 }
@@ -40,11 +39,7 @@ fn start_in_cycle(month: u16) -> u16
     ensures value { result ≡ start_from lengths month }
     ensures bound { result ≤ 1488 }
 {
-    let mut day = 0;
-    for i in 0..month {
-        day += length_of(i);
-    }
-    day
+    LENGTHS[..usize::from(month)].iter().sum()
 }
 
 // The month in which a day lies.

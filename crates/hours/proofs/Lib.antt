@@ -1,1 +1,1 @@
-mod Linewise
+pub mod Linewise

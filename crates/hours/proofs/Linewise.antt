@@ -1,5 +1,5 @@
 -- The report on a line, and on what follows it.
-use Rattle.std.proofs.Common.{◌≡◌, ℕ, ◌<◌, true, false, eqb, List, [], ◌∷◌, ◌++◌, length, Err, Result, sym, refl, ap, ◌∙◌, append_assoc, arith, length-append}
+use Rattle.std.proofs.Common.{◌≡◌, ℕ, true, false, eqb, List, [], ◌∷◌, ◌++◌, length, Err, Result, sym, refl, ap, ◌∙◌, append_assoc, arith}
 use Rattle.std.proofs.lemmas.List.{append-nil}
 use Rattle.std.proofs.lemmas.Bool.{eqb-true, eqb-false, ne_eqb}
 use Rattle.terms.specs.declared.refusal.Refusal.{Refusal}
@@ -24,9 +24,6 @@ line_by_line = record { line = line_from_is []; last = last_from [] }
 pub one_more : (input done bs w rest more : List ℕ) (found : Result Delivery Refusal) (fields : List Piece) → done ++ report_of bs ≡ report_of input → (bs ≡ w ++ 10 ∷ rest) × Lacks 10 w → more ≡ done ++ told found → found ≡ answer_of fields → fields ≡ fields_of w → more ++ report_of rest ≡ report_of input
 one_more input done bs w rest more found fields inv cut added is split =
     rw (added, is, split, append_assoc done (told (answer_of (fields_of w))) (report_of rest), ← line_from_is [] w rest cut.1, ← cut.0) inv
-
-pub shorter : (bs w rest : List ℕ) → bs ≡ w ++ 10 ∷ rest → length rest < length bs
-shorter bs w rest e = omega (arith, simp length-append at (ap length e))
 
 -- no line is left, but some bytes are
 pub last_some : (input done bs more : List ℕ) → done ++ report_of bs ≡ report_of input → Lacks 10 bs → eqb (length bs) 0 ≡ false → more ≡ done ++ told (Err Form) → more ≡ report_of input

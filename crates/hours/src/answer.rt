@@ -9,7 +9,7 @@ use terms::Refusal;
 use text::{Field, at_end, take_letter, take_number};
 
 // The days of a period and its delivery hours.
-#[derive(Clone, Copy)]
+#[derive(Clone, Copy, PartialEq, Eq, Debug)]
 pub struct Answer {
     pub period: Period,
     pub hours: u32,
@@ -23,8 +23,8 @@ pub fn answer_to(fields: &[Field]) -> Result<Answer, Refusal>
     let (maturity, fields) = take_letter(fields)?;
     let (number, fields) = take_number(fields)?;
     at_end(fields)?;
-    let load = Load::from_letter(profile)?;
-    let maturity = Maturity::from_letter(maturity)?;
+    let load = Load::try_from(profile)?;
+    let maturity = Maturity::try_from(maturity)?;
     let day = Day::from_number(number)?;
     let period = maturity.period(day)?;
     Ok(Answer {

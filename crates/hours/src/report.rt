@@ -8,6 +8,7 @@ use terms::Refusal;
 use text::{next_line, split_into};
 
 // The text of the answers, a line for each line of the input. Bytes at its end with no line's end are refused.
+#[tactic(auto, using(crate::proofs::Linewise::line_by_line))]
 pub fn report_on(heap: Global, input: &[u8]) -> Result<String, AllocError>
     ensures value { IfOk result (λ t. string_bytes t ≡ report_of input.now) }
     ensures law { LineByLine }
@@ -30,12 +31,9 @@ pub fn report_on(heap: Global, input: &[u8]) -> Result<String, AllocError>
 fn add_line(text: &mut String, found: Result<Answer, Refusal>) -> Result<(), AllocError>
     ensures { OnOk result (string_bytes text.new ≡ string_bytes text.old ++ told (answer_in found)) }
 {
-    let added = match found {
-        Ok(answer) => writeln!(text, "{answer}"),
-        Err(refusal) => writeln!(text, "{refusal}"),
-    };
-    match added {
-        Ok(()) => Ok(()),
-        Err(_) => Err(AllocError),
+    match found {
+        Ok(answer) => writeln!(text, "{answer}")?,
+        Err(refusal) => writeln!(text, "{refusal}")?,
     }
+    Ok(())
 }

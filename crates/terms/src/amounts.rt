@@ -3,6 +3,7 @@ ghost use Rattle.terms.specs.Amounts.{any, no_amount, amount_plus, amount_minus,
 ghost use Rattle.terms.specs.Groups.{quantity_laws, amount_laws, gains_laws};
 
 use crate::additive::Additive;
+use std::array;
 
 // A quantity of contracts.
 impl Additive for i64 {
@@ -97,18 +98,12 @@ impl Additive for Gains {
     }
 
     fn sum(self, other: Gains) -> Gains {
-        let mut each = self.each;
-        for i in 0..16 {
-            each[i] = each[i] + other.each[i];
-        }
+        let each = array::from_fn(|i| self.each[i] + other.each[i]);
         Gains { each }
     }
 
     fn opposite(self) -> Gains {
-        let mut each = self.each;
-        for i in 0..16 {
-            each[i] = -each[i];
-        }
+        let each = self.each.map(|gain| -gain);
         Gains { each }
     }
 }

@@ -6,9 +6,11 @@ mod amounts;
 mod bounds;
 mod failure;
 mod refusal;
+mod rows;
 
 pub use additive::{Additive, less, total};
 pub use amounts::{Amount, Gains};
 pub use bounds::Bounds;
 pub use failure::Failure;
 pub use refusal::Refusal;
+pub use rows::Rows;

@@ -1,45 +1,63 @@
--- One byte more of a line that is looked for, and of a line that is cut into fields.
-use Rattle.std.proofs.Common.{◌≡◌, ℕ, ◌+◌, ◌-◌, ◌<◌, ◌≤◌, List, [], ◌∷◌, ◌++◌, map, length, get_or, take, drop, Some, append_assoc, arith}
-use Rattle.std.proofs.lemmas.List.Edits.{between_more, between_none}
-use Rattle.std.proofs.lemmas.List.{at_drop_more, at_drop_all, take_more, take_rest, map_push}
-use Rattle.std.proofs.lemmas.Bool.{eq-eqb, ne_eqb}
-use Rattle.std.specs.List.{between}
-use Rattle.text.specs.Fields.{Piece, piece_of, see}
-use Rattle.text.specs.Lines.{line_from, words_from, fields_of}
-use Rattle.text.specs.declared.field.Field.{Field}
+-- A line that is cut at its end and into words, by std's words for what `position` and `split` give.
+use Rattle.std.proofs.Common.{◌≡◌, ℕ, suc, ◌+◌, ◌-◌, ◌<◌, eqb, List, [], ◌∷◌, ◌++◌, length, take, drop, Some, None, sym, refl, ap, ◌∙◌, ⊎_elim, append_assoc, add-one, arith}
+use Rattle.std.proofs.lemmas.List.{append-nil, take_rest}
+use Rattle.std.proofs.lemmas.List.Splits.{length-slice_split}
+use Rattle.std.proofs.lemmas.Iterator.Adapters.{position_from-zero}
+use Rattle.std.proofs.lemmas.Bool.{cases_eq, eq-eqb, ne_eqb}
+use Rattle.std.specs.List.{position, position_from, slice_split, onto_first}
+use Rattle.text.specs.Lines.{line_from, line_of, words_from, words_of}
 
-pub line_more : (bs : List ℕ) (i : ℕ) → i < length bs → (get_or bs i 0 ≡ 10 → ⊥) → line_from (take (i + 1) bs) (drop (i + 1) bs) ≡ line_from (take i bs) (drop i bs)
-line_more bs i h n = rw (at_drop_more (line_from (take i bs)) bs i 0 h, ne_eqb _ 10 n, take_more bs i 0 h)
+-- ---- the first line
 
-pub line_ends : (bs : List ℕ) (i : ℕ) → i < length bs → get_or bs i 0 ≡ 10 → Some (take i bs, take (length bs - (i + 1)) (drop (i + 1) bs)) ≡ line_from (take i bs) (drop i bs)
-line_ends bs i h e = rw (at_drop_more (line_from (take i bs)) bs i 0 h, eq-eqb _ 10 e, take_rest bs (i + 1))
+none_from : (w bs : List ℕ) (i : ℕ) → position_from (λ b. eqb b 10) i bs ≡ None → line_from w bs ≡ None
+none_from w [] i e = refl
+none_from w (b ∷ bs) i e =
+    ⊎_elim
+    (λ yes. let clash : Some i ≡ None = rw (eq-eqb b 10 yes) at e in cc)
+    (λ no. rw (ne_eqb b 10 no) (none_from (w ++ b ∷ []) bs (i + 1) (rw (ne_eqb b 10 no) at e)))
+    (cases_eq b 10)
 
--- the fields of what is left of a line, where w is the part of a word that has been read
-abbrev fields_from : List ℕ → List ℕ → List Piece
-fields_from w bs = map piece_of (words_from w bs)
+some_from : (w bs : List ℕ) (i k : ℕ) → position_from (λ b. eqb b 10) i bs ≡ Some k → (j : ℕ) × (k ≡ i + j) × (line_from w bs ≡ Some (w ++ take j bs, drop (suc j) bs))
+some_from w [] i k e = absurd (cc)
+some_from w (b ∷ bs) i k e =
+    ⊎_elim
+    (λ yes. let is : Some i ≡ Some k = rw (eq-eqb b 10 yes) at e in let same : i ≡ k = cc in (0, omega arith, rw (eq-eqb b 10 yes, append-nil w) refl))
+    (λ no.
+    let later = some_from (w ++ b ∷ []) bs (i + 1) k (rw (ne_eqb b 10 no) at e) in
+    let more : k ≡ i + suc later.0 = omega (arith, later.1) in
+    (suc later.0, more, rw (ne_eqb b 10 no, ← append_assoc w (b ∷ []) (take later.0 bs)) later.2))
+    (cases_eq b 10)
 
--- fs are the fields that end before i, and the next one starts at s
-pub record Sofar (bs : List ℕ) (fs : List Field) (s i : ℕ) : Type 0 where
-  pub before : s ≤ i
-  pub whole : map see fs ++ fields_from (between s i bs) (drop i bs) ≡ fields_of bs
+pub line_none : (bs : List ℕ) → position (λ b. eqb b 10) bs ≡ None → None ≡ line_of bs
+line_none bs e = sym (none_from [] bs 0 (sym (position_from-zero (λ b. eqb b 10) bs) ∙ e))
 
-module _ {bs : List ℕ} {fs : List Field} {s i : ℕ} (so : Sofar bs fs s i) where
-  pub field_more : (gs : List Field) (t : ℕ) → gs ≡ fs → t ≡ s → i < length bs → (get_or bs i 0 ≡ 32 → ⊥) → Sofar bs gs t (i + 1)
-  field_more gs t same at h n =
-      let le = so.before in
-      record {
-        before = omega arith;
-        whole = rw (same, at) ((rw (at_drop_more (fields_from (between s i bs)) bs i 0 h, ne_eqb _ 32 n, ← between_more bs s i 0 le h) at so.whole));
-      }
+pub line_some : (bs : List ℕ) (k : ℕ) → position (λ b. eqb b 10) bs ≡ Some k → Some (take k bs, take (length bs - (k + 1)) (drop (k + 1) bs)) ≡ line_of bs
+line_some bs k e =
+    let found = some_from [] bs 0 k (sym (position_from-zero (λ b. eqb b 10) bs) ∙ e) in
+    let same : found.0 ≡ k = omega (arith, found.1) in
+    rw (take_rest bs (k + 1), ← same, add-one found.0) (sym found.2)
 
-  -- the field's last byte stands before a space at i
-  pub field_ends : (f : Field) (hs gs : List Field) (t : ℕ) → gs ≡ hs → hs ≡ fs ++ f ∷ [] → t ≡ i + 1 → i < length bs → get_or bs i 0 ≡ 32 → see f ≡ piece_of (between s i bs) → Sofar bs gs t (i + 1)
-  field_ends f hs gs t same more at h e is =
-      record {
-        before = omega arith;
-        whole = rw (same, more, at, map_push see fs f, append_assoc (map see fs) (see f ∷ []), between_none bs (i + 1), is) (rw (at_drop_more (fields_from (between s i bs)) bs i 0 h, eq-eqb _ 32 e) at so.whole);
-      }
+-- ---- the words
+-- some parts, of which w comes before the first
+abbrev onto : List ℕ → List (List ℕ) → List (List ℕ)
+onto w [] = w ∷ []
+onto w (v ∷ vs) = (w ++ v) ∷ vs
 
-  pub field_last : (f : Field) (gs : List Field) → gs ≡ fs ++ f ∷ [] → i ≡ length bs → see f ≡ piece_of (between s (length bs) bs) → map see gs ≡ fields_of bs
-  field_last f gs more end is =
-      rw (more, map_push see fs f, is, ← end) (rw (at_drop_all (fields_from (between s i bs)) bs i (omega arith)) at so.whole)
+onto_none : (vs : List (List ℕ)) → 0 < length vs → onto [] vs ≡ vs
+onto_none [] h = absurd (omega arith)
+onto_none (v ∷ vs) h = refl
+
+onto_more : (w : List ℕ) (b : ℕ) (vs : List (List ℕ)) → onto (w ++ b ∷ []) vs ≡ onto w (onto_first b vs)
+onto_more w b [] = refl
+onto_more w b (v ∷ vs) = rw (append_assoc w (b ∷ []) v) refl
+
+words_onto : (w bs : List ℕ) → words_from w bs ≡ onto w (slice_split (λ b. eqb b 32) bs)
+words_onto w [] = rw append-nil refl
+words_onto w (b ∷ bs) =
+    ⊎_elim
+    (λ yes. rw (eq-eqb b 32 yes, append-nil w) (ap (λ vs. w ∷ vs) (words_onto [] bs ∙ onto_none _ (omega (arith, length-slice_split (λ b. eqb b 32) bs)))))
+    (λ no. rw (ne_eqb b 32 no) (words_onto (w ++ b ∷ []) bs ∙ onto_more w b (slice_split (λ b. eqb b 32) bs)))
+    (cases_eq b 32)
+
+pub words_are : (bs : List ℕ) → slice_split (λ b. eqb b 32) bs ≡ words_of bs
+words_are bs = sym (words_onto [] bs ∙ onto_none _ (omega (arith, length-slice_split (λ b. eqb b 32) bs)))

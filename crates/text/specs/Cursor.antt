@@ -1,5 +1,5 @@
 -- The fields of a line, taken one after another.
-use Rattle.std.specs.Prelude.{ℕ, List, [], ◌∷◌, map, ℤ, Ok, Err, Result}
+use Rattle.std.specs.Prelude.{◌≡◌, ℕ, List, [], ◌∷◌, map, ℤ, Ok, Err, Result}
 use Rattle.std.specs.Borrow.{Bor}
 use Rattle.terms.specs.declared.refusal.Refusal.{Refusal}
 use Rattle.terms.specs.declared.refusal.Refusal.TheVariants.{Form}
@@ -41,3 +41,9 @@ no_more (p ∷ ps) = Err Form
 abbrev pub taken : {X : Type 0} → Result (X × Bor (List Field)) Refusal → Result (X × List Piece) Refusal
 taken (Ok p) = Ok (p.0, map see p.1.now)
 taken (Err e) = Err e
+
+-- where `told` says what the reading of a field may answer: that answer, of the first field, and the other fields
+abbrev pub TakesFirst : {X : Type 0} → (Field → Result X Refusal → Type 0) → List Field → Result (X × Bor (List Field)) Refusal → Type 0
+TakesFirst told [] r = r ≡ Err Form
+TakesFirst told (f ∷ fs) (Ok p) = told f (Ok p.0) × (p.1.now ≡ fs)
+TakesFirst told (f ∷ fs) (Err e) = told f (Err e)

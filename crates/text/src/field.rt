@@ -7,7 +7,7 @@ ghost use Rattle.text.specs.Fields.{piece_of, see};
 const LIMIT: u64 = 1_000_000_000_000_000_000;
 
 // A field of a line. A word borrows its bytes from the line.
-#[derive(Clone, Copy)]
+#[derive(Clone, Copy, PartialEq, Eq, Debug)]
 pub enum Field<'a> {
     Word(&'a [u8]),
     Number(i64),
@@ -39,6 +39,7 @@ fn unsigned(ds: &[u8]) -> Option<i64>
 
 // `0`, or an optional `-` and digits of which the first is not 0. Each number has one spelling, so `-0`, `+5` and
 // `007` are none.
+#[tactic(auto, using(crate::proofs::Spellings::one_spelling))]
 pub fn number(word: &[u8]) -> Option<i64>
     ensures value { result ≡ number_of word.now }
     ensures law { OneSpelling word.now result }
@@ -51,11 +52,13 @@ pub fn number(word: &[u8]) -> Option<i64>
 }
 
 // A number, or else a word.
-pub fn as_field<'a>(word: &'a [u8]) -> Field<'a>
-    ensures { see result ≡ piece_of word.now }
-{
-    match number(word) {
-        Some(n) => Field::Number(n),
-        None => Field::Word(word),
+impl<'a> From<&'a [u8]> for Field<'a> {
+    ghost from_gives = { λ word field. see field ≡ piece_of word.now };
+
+    fn from(word: &'a [u8]) -> Field<'a> {
+        match number(word) {
+            Some(n) => Field::Number(n),
+            None => Field::Word(word),
+        }
     }
 }

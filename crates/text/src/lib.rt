@@ -6,5 +6,5 @@ mod field;
 mod line;
 
 pub use cursor::{at_end, letter_in, number_in, take_letter, take_number};
-pub use field::{Field, as_field, number};
+pub use field::{Field, number};
 pub use line::{next_line, split_into};

@@ -2,7 +2,7 @@ ghost use Rattle.std.specs.Prelude.{◌≡◌, map, OnOk};
 ghost use Rattle.text.specs.Fields.{see};
 ghost use Rattle.text.specs.Lines.{bytes_in, line_of, CutAtLineEnd, words_of, fields_of, Spaced};
 
-use crate::field::{Field, as_field};
+use crate::field::Field;
 use std::alloc::AllocError;
 
 const LINE_END: u8 = b'\n';
@@ -14,12 +14,8 @@ pub fn next_line<'a>(bytes: &'a [u8]) -> Option<(&'a [u8], &'a [u8])>
     ensures value { bytes_in result ≡ line_of bytes.now }
     ensures law { CutAtLineEnd bytes.now (bytes_in result) }
 {
-    for (i, b) in bytes.iter().enumerate() {
-        if *b == LINE_END {
-            return Some((&bytes[..i], &bytes[i + 1..]));
-        }
-    }
-    None
+    let end = bytes.iter().position(|b| *b == LINE_END)?;
+    Some((&bytes[..end], &bytes[end + 1..]))
 }
 
 // Puts the fields of the line in place of what the list held, so that one list serves every line of a file.
@@ -29,13 +25,8 @@ pub fn split_into<'a>(line: &'a [u8], fields: &mut Vec<Field<'a>>) -> Result<(),
     ensures law { Spaced line.now (words_of line.now) }
 {
     fields.clear();
-    let mut start = 0;
-    for (i, b) in line.iter().enumerate() {
-        if *b == SPACE {
-            fields.push(as_field(&line[start..i]))?;
-            start = i + 1;
-        }
+    for word in line.split(|b| *b == SPACE) {
+        fields.push(Field::from(word))?;
     }
-    fields.push(as_field(&line[start..]))?;
     Ok(())
 }

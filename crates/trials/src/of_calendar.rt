@@ -93,8 +93,8 @@ fn hours_and_masks(rt: HostRuntime) -> Result<(), Fail> {
 fn letters(rt: HostRuntime) {
     let loads = [(b'B', Load::Base), (b'P', Load::Peak), (b'G', Load::Gas)];
     for (letter, load) in loads {
-        assert_eq!(rt; Load::from_letter(letter), Ok(load));
-        assert_eq!(rt; load.letter(), letter);
+        assert_eq!(rt; Load::try_from(letter), Ok(load));
+        assert_eq!(rt; u8::from(load), letter);
     }
     let maturities = [
         (b'D', Maturity::SingleDay),
@@ -108,11 +108,11 @@ fn letters(rt: HostRuntime) {
         (b'Y', Maturity::Year),
     ];
     for (letter, maturity) in maturities {
-        assert_eq!(rt; Maturity::from_letter(letter), Ok(maturity));
-        assert_eq!(rt; maturity.letter(), letter);
+        assert_eq!(rt; Maturity::try_from(letter), Ok(maturity));
+        assert_eq!(rt; u8::from(maturity), letter);
     }
     for letter in [b'b', b'A', b'Z', b'0', b' ', b'\n', 0, 255] {
-        assert_eq!(rt; Load::from_letter(letter), Err(Refusal::Form));
-        assert_eq!(rt; Maturity::from_letter(letter), Err(Refusal::Form));
+        assert_eq!(rt; Load::try_from(letter), Err(Refusal::Form));
+        assert_eq!(rt; Maturity::try_from(letter), Err(Refusal::Form));
     }
 }

@@ -42,11 +42,11 @@ fn numbers_that_name_no_day(rt: HostRuntime) {
 #[test]
 fn every_day_in_turn(rt: HostRuntime) -> Result<(), Fail> {
     let mut count = 0u16;
-    for year in 2000..2100 {
-        for month in 1..13 {
+    for year in 2000..=2099 {
+        for month in 1..=12 {
             let before = year * 10_000 + month * 100;
             let length = length(year, month);
-            for day in 1..length + 1 {
+            for day in 1..=length {
                 let found = Day::from_number(i64::from(before + day))?;
                 assert_eq!(rt; found.number, count);
                 assert_eq!(rt; found.to_number(), before + day);

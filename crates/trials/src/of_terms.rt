@@ -1,5 +1,7 @@
+ghost use Rattle.std.specs.Prelude.{◌≡◌};
+
 use std::test::Fail;
-use terms::{Additive, Amount, Bounds, Gains, Refusal, less, total};
+use terms::{Additive, Amount, Bounds, Gains, Refusal, Rows, less, total};
 
 #[test]
 fn refusals(rt: HostRuntime) -> Result<(), Fail> {
@@ -49,28 +51,20 @@ fn ranges(rt: HostRuntime) {
     }
 }
 
-// Quantity and value.
-fn parts(amount: Amount) -> (i64, i64) {
-    (amount.quantity, amount.value)
+fn amount(quantity: i64, value: i64) -> Amount
+    ensures { result ≡ record { quantity = quantity; value = value } }
+{
+    Amount { quantity, value }
 }
 
 #[test]
 fn sums_of_amounts(rt: HostRuntime) {
-    let a = Amount {
-        quantity: 5,
-        value: -20_000,
-    };
-    let b = Amount {
-        quantity: -7,
-        value: 31_500,
-    };
-    let c = Amount {
-        quantity: 2,
-        value: -11_400,
-    };
-    assert_eq!(rt; parts(total(&[a, b, c])), (0, 100));
-    assert_eq!(rt; parts(less(a, b)), (12, -51_500));
-    assert_eq!(rt; parts(b.opposite()), (7, -31_500));
+    let a = amount(5, -20_000);
+    let b = amount(-7, 31_500);
+    let c = amount(2, -11_400);
+    assert_eq!(rt; total(&[a, b, c]), amount(0, 100));
+    assert_eq!(rt; less(a, b), amount(12, -51_500));
+    assert_eq!(rt; b.opposite(), amount(7, -31_500));
     assert_eq!(rt; less(3i64, 5), -2);
 }
 
@@ -79,11 +73,7 @@ fn sums_of_gains(rt: HostRuntime) {
     let a = Gains {
         each: [0, 1, 2, 3, 4, 5, 6, 7, 8, 9, 10, 11, 12, 13, 14, -15],
     };
-    let b = Gains {
-        each: [
-            100, 100, 100, 100, 100, 100, 100, 100, 100, 100, 100, 100, 100, 100, 100, 100,
-        ],
-    };
+    let b = Gains { each: [100; 16] };
     let sum = [
         100, 101, 102, 103, 104, 105, 106, 107, 108, 109, 110, 111, 112, 113, 114, 85,
     ];
@@ -93,4 +83,14 @@ fn sums_of_gains(rt: HostRuntime) {
     assert_eq!(rt; total(&[a, b]).each, sum);
     assert_eq!(rt; a.opposite().each, opposite);
     assert_eq!(rt; less(a, a).each, [0; 16]);
+}
+
+#[test]
+fn rows_up_to_the_most(rt: HostRuntime) -> Result<(), Fail> {
+    let mut rows: Rows<u32, 2> = Rows::new(rt.alloc())?;
+    assert_eq!(rt; rows.push(7), Ok(()));
+    assert_eq!(rt; rows.push(5), Ok(()));
+    assert_eq!(rt; rows.push(6), Err(Refusal::TooLong));
+    assert_eq!(rt; rows.rows.as_slice(), [7, 5].as_slice());
+    Ok(())
 }

@@ -1,6 +1,8 @@
-use Rattle.std.proofs.Common.{◌≡◌, ◌*◌, ◌≤◌}
+use Rattle.std.proofs.Common.{◌≡◌, ◌-◌, ◌*◌, ◌≤◌}
 use Rattle.calendar.specs.Hours.{hours_from}
 use Rattle.calendar.proofs.hours.hours_of_period.Given as goal
 
-abbrev pub invariant-loop-i : goal.invariant-loop-i
-invariant-loop-i g l = (l.sum ≡ hours_from (g.P.Profile.mask l.profile) l.period.first.number l.i) × (l.sum ≤ 25 * l.i)
+abbrev pub invariant-loop-number : goal.invariant-loop-number
+invariant-loop-number g l =
+    (l.sum ≡ hours_from (g.P.Profile.mask l.profile) l.fn.period.first.number (l.number - l.fn.period.first.number))
+    × (l.sum ≤ 25 * (l.number - l.fn.period.first.number))

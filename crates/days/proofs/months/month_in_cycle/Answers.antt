@@ -1,25 +1,22 @@
-use Rattle.std.proofs.Common.{◌+◌, ◌-◌, drop, ap, arith}
-use Rattle.days.specs.Months.{lengths, month_from}
+use Rattle.std.proofs.Common.{arith}
+use Rattle.days.specs.Months.{lengths}
 use Rattle.days.proofs.Tiling.{from_here, from_later, from_none}
 use Rattle.days.proofs.months.month_in_cycle.Goals as goal
 
-pub returns-then-left-length : goal.returns-then-left-length
-returns-then-left-length c =
-    let l = c.length_of-length.ensures.value in
-    let h = from_here c.loop-i.i c.loop-i.left c.loop-i-test.true (omega arith) in
-    let i = c.loop-i.invariant in
-    record { value = omega arith; bound = omega arith }
+pub returns-then-left-length-clause-value : goal.returns-then-left-length-clause-value
+unfolding lengths
+returns-then-left-length-clause-value c =
+    let h = from_here c.loop-month.month c.loop-month.left c.loop-month-test.true c.if-left-length.true in
+    omega (arith, c.loop-month.invariant)
 
-pub loop-i-preserved : goal.loop-i-preserved
-loop-i-preserved c =
-    let l = c.length_of-length.ensures.value in
-    let h = from_later c.loop-i.i c.loop-i.left c.loop-i-test.true (omega arith) in
-    let e = ap (λ n. month_from (drop (c.loop-i.i + 1) lengths) (c.loop-i.left - n)) l in
-    let i = c.loop-i.invariant in
-    omega arith
+pub loop-month-preserved : goal.loop-month-preserved
+unfolding lengths
+loop-month-preserved c =
+    let h = from_later c.loop-month.month c.loop-month.left c.loop-month-test.true c.if-left-length.false in
+    omega (arith, c.loop-month.invariant)
 
-pub returns : goal.returns
-returns c =
-    let h = from_none c.loop-i.i c.loop-i.left c.loop-i-test.false in
-    let i = c.loop-i.invariant in
-    record { value = omega arith; bound = omega arith }
+pub returns-clause-value : goal.returns-clause-value
+unfolding lengths
+returns-clause-value c =
+    let h = from_none c.loop-month.month c.loop-month.left c.loop-month-test.false in
+    omega (arith, c.loop-month.invariant)

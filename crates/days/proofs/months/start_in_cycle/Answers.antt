@@ -1,13 +1,19 @@
-use Rattle.std.proofs.Common.{sym, arith}
-use Rattle.days.proofs.Tiling.{start_none, start_more}
+use Rattle.std.proofs.Common.{take, sym, ◌∙◌, arith}
+use Rattle.std.proofs.lemmas.Iterator.{YieldsList-from_slice}
+use Rattle.std.proofs.lemmas.Iterator.Consumers.{sum_from_yields_List, fits_from_yields_list}
+use Rattle.days.specs.Months.{lengths}
+use Rattle.days.proofs.Tiling.{start_sum, start_small}
 use Rattle.days.proofs.months.start_in_cycle.Goals as goal
 
-pub loop-i-init : goal.loop-i-init
-loop-i-init c = (sym start_none, omega arith)
+pub sum-requires-clause-fits : goal.sum-requires-clause-fits
+unfolding lengths
+sum-requires-clause-fits c =
+    let k = c.args.month in
+    fits_from_yields_list c.iter.result _ (YieldsList-from_slice (take k lengths) cc) (omega (arith, start_sum lengths k, start_small k))
 
-pub loop-i-preserved : goal.loop-i-preserved
-loop-i-preserved c =
-    let l = c.length_of-day.ensures.value in
-    let b = c.length_of-day.ensures.bound in
-    let s = start_more c.loop-i.i (omega arith) in
-    (omega arith, omega arith)
+pub returns : goal.returns
+unfolding lengths
+returns c =
+    let k = c.args.month in
+    let value = sum_from_yields_List c.iter.result _ c.sum.ensures.ran (YieldsList-from_slice (take k lengths) cc) ∙ sym (start_sum lengths k) in
+    record { value = value; bound = omega (arith, start_small k) }

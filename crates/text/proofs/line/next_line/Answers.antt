@@ -1,19 +1,23 @@
-use Rattle.std.proofs.Common.{take, sym, ◌∙◌}
-use Rattle.std.proofs.lemmas.List.{at_drop_all}
-use Rattle.text.specs.Lines.{line_from}
-use Rattle.text.proofs.Cuts.{line_more, line_ends}
+use Rattle.std.proofs.Common.{◌≡◌, eqb, None, sym, ◌∙◌, rules, tests}
+use Rattle.std.specs.List.{position}
+use Rattle.std.proofs.lemmas.Iterator.{YieldsList-from_slice}
+use Rattle.std.proofs.lemmas.Iterator.Search.{position_from_yields_List}
+use Rattle.text.specs.Lines.{bytes_in}
+use Rattle.text.proofs.Cuts.{line_none, line_some}
 use Rattle.text.proofs.Spaces.{line_cut}
 use Rattle.text.proofs.line.next_line.Goals as goal
 
-pub returns-then-b-eq-LINE_END : goal.returns-then-b-eq-LINE_END
-returns-then-b-eq-LINE_END c =
-    let e = line_ends c.args.bytes.now _ c.loop-i-test.true c.if-b-eq-LINE_END.true ∙ c.loop-i.invariant in
-    record { value = e; law = line_cut c.args.bytes.now _ e }
-
-pub loop-i-preserved : goal.loop-i-preserved
-loop-i-preserved c = line_more c.args.bytes.now _ c.loop-i-test.true c.if-b-eq-LINE_END.false ∙ c.loop-i.invariant
+pub returns-in_err-end : goal.returns-in_err-end
+returns-in_err-end c =
+    let bs = c.args.bytes.now in
+    let at : c.position.result ≡ position (λ b. eqb b 10) bs = position_from_yields_List (λ b. eqb b 10) _ _ _ c.position.ensures.ran (YieldsList-from_slice bs cc) (λ x b q k. search (rules, tests)) in
+    let none : bytes_in c.from_residual.result ≡ None = search rules in
+    let e = none ∙ line_none bs (sym at ∙ c.in_err-end.was) in
+    record { value = e; law = line_cut bs _ e }
 
 pub returns : goal.returns
 returns c =
-    let e = sym (at_drop_all (line_from (take c.loop-i.i c.args.bytes.now)) c.args.bytes.now _ c.loop-i-test.false) ∙ c.loop-i.invariant in
-    record { value = e; law = line_cut c.args.bytes.now _ e }
+    let bs = c.args.bytes.now in
+    let at : c.position.result ≡ position (λ b. eqb b 10) bs = position_from_yields_List (λ b. eqb b 10) _ _ _ c.position.ensures.ran (YieldsList-from_slice bs cc) (λ x b q k. search (rules, tests)) in
+    let e = line_some bs c.in_ok-end.end (sym at ∙ c.in_ok-end.was) in
+    record { value = e; law = line_cut bs _ e }

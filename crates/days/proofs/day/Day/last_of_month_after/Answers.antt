@@ -1,5 +1,5 @@
-use Rattle.std.proofs.Common.{ℕ, ◌+◌, ◌-◌, Some, None, sym, ap, ◌∙◌, arith}
-use Rattle.std.proofs.lemmas.Bool.{lt-ltb, le-ltb, cond-true, cond-false}
+use Rattle.std.proofs.Common.{ℕ, ◌+◌, ◌-◌, Some, None, sym, arith}
+use Rattle.std.proofs.lemmas.Bool.{le-ltb, cond-false}
 use Rattle.days.specs.Months.{month_of, month_start}
 use Rattle.days.proofs.Tiling.{last_within, last_past}
 use Rattle.days.proofs.day.Day.last_of_month_after.Goals as goal
@@ -15,10 +15,3 @@ overflow_sub-result c = let e = c.start_of.ensures in let l = last_within (c.mon
 
 pub invariant_of-result : goal.invariant_of-result
 invariant_of-result c = let e = c.start_of.ensures in let l = last_within (c.month-month.result + c.args.months) (omega arith) in record { within = omega arith }
-
-pub returns : goal.returns
-returns c =
-    let m : ℕ = month_of c.args.self.number + c.args.months in
-    let v = c.month-month.ensures.value in
-    let e = c.start_of.ensures ∙ ap (λ k. month_start (k + c.args.months + 1)) v in
-    ap (λ k. Some (k - 1)) e ∙ sym (cond-true _ (Some (month_start (m + 1) - 1)) None (lt-ltb _ 36525 (last_within m (omega arith)).1))
