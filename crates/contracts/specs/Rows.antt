@@ -1,5 +1,6 @@
 -- What the code's rows stand for. Names no struct that has the rules as its ghost fields.
-use Rattle.std.specs.Prelude.{Some, None, Option}
+use Rattle.std.specs.Prelude.{Some, None, Ok, Err, Option, Result}
+use Rattle.terms.specs.declared.refusal.Refusal.{Refusal}
 use Rattle.contracts.specs.Table.{Instr, Listed, blank}
 use Rattle.contracts.specs.declared.contract.Instrument.{Instrument}
 use Rattle.contracts.specs.declared.contract.Terms.{Terms}
@@ -13,6 +14,10 @@ said_in c = record { number = c.number; instrument = c.instrument; maturity = c.
 
 abbrev pub listed : Contract → Listed
 listed c = said_in c.terms
+
+abbrev pub told : Result Contract Refusal → Result (Unit {0}) Refusal
+told (Ok c) = Ok tt
+told (Err e) = Err e
 
 abbrev pub row_in : Option Contract → Listed
 row_in None = blank

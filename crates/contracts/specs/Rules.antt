@@ -65,6 +65,14 @@ is_due t option c =
 abbrev pub keeps_dates : Table → Listed → Bool
 keeps_dates t c = (starts_on c.maturity c.first && nat_le (last_day c) 36524) && is_due t (option_in t c.instrument) c
 
+-- what it is refused for, apart from its coming when 128 are there
+abbrev pub terms_refusal : Table → Listed → Option Refusal
+terms_refusal t c =
+    cond (not (holds_in Contract (pos c.number) && holds_in Instrument (pos c.instrument))) (Some OutOfRange)
+    (cond (not (is_numbered c.instrument t.instruments)) (Some UnknownReference)
+    (cond (is_repeated c t.contracts) (Some RepeatedKey)
+    (cond (not (keeps_dates t c)) (Some DateRule) None)))
+
 -- 2 a number out of range, 3 instrument not listed, 4 a key again, 5 a date rule, 7 128 are there
 abbrev pub contract_refusal : Table → Listed → Option Refusal
 contract_refusal t c =
@@ -78,11 +86,6 @@ contract_refusal t c =
 abbrev pub answer_by : Option Refusal → Result (Unit {0}) Refusal
 answer_by None = Ok tt
 answer_by (Some e) = Err e
-
--- the last day of a contract that may be added
-abbrev pub last_by : ℕ → Option Refusal → Result ℕ Refusal
-last_by d None = Ok d
-last_by d (Some e) = Err e
 
 -- ---- what every table keeps: each row meets no refusal beside the rows before it
 abbrev pub InstrumentsKept : List Instr → Type 0

@@ -5,7 +5,7 @@ use Rattle.contracts.specs.Rows.{instr, listed}
 use Rattle.contracts.specs.declared.table.ContractTable.{ContractTable}
 
 abbrev pub table_of : {P : Type 0} → ContractTable P → Table
-table_of t = record { date = t.date.number; horizon = t.horizon.number; instruments = map instr (vec_items t.instruments); contracts = map listed (vec_items t.contracts) }
+table_of t = record { date = t.date.number; horizon = t.horizon.number; instruments = map instr (vec_items t.instruments.rows); contracts = map listed (vec_items t.contracts.rows) }
 
 abbrev pub empty_table : ℕ → ℕ → Table
 empty_table date horizon = record { date = date; horizon = horizon; instruments = []; contracts = [] }

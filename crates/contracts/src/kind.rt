@@ -12,10 +12,12 @@ pub enum Kind {
     Option,
 }
 
-impl Kind {
-    pub fn from_letter(letter: u8) -> Result<Kind, Refusal>
-        ensures { result ≡ kind_of letter }
-    {
+impl TryFrom<u8> for Kind {
+    type Error = Refusal;
+
+    ghost try_from_gives = { λ letter r. r ≡ kind_of letter };
+
+    fn try_from(letter: u8) -> Result<Kind, Refusal> {
         match letter {
             b'F' => Ok(Kind::Future),
             b'W' => Ok(Kind::Forward),
@@ -24,25 +26,25 @@ impl Kind {
             _ => Err(Refusal::Form),
         }
     }
+}
 
-    pub fn letter(self) -> u8
-        ensures value { result ≡ kind_letter self }
-        ensures law { kind_of result ≡ Ok self }
-    {
-        match self {
+impl From<Kind> for u8 {
+    ghost from_gives = { λ kind letter. (letter ≡ kind_letter kind) × (kind_of letter ≡ Ok kind) };
+
+    fn from(kind: Kind) -> u8 {
+        match kind {
             Kind::Future => b'F',
             Kind::Forward => b'W',
             Kind::Swap => b'S',
             Kind::Option => b'O',
         }
     }
+}
 
+impl Kind {
     pub fn is_option(self) -> bool
         ensures { result ≡ is_option self }
     {
-        match self {
-            Kind::Option => true,
-            Kind::Future | Kind::Forward | Kind::Swap => false,
-        }
+        self == Kind::Option
     }
 }

@@ -13,5 +13,5 @@ mod taking;
 
 pub use contract::{Contract, Instrument, Terms};
 pub use kind::Kind;
-pub use line::Line;
+pub use line::{Line, RestOf};
 pub use table::ContractTable;

@@ -6,7 +6,7 @@ ghost use Rattle.contracts.specs.Seen.{seen};
 ghost use Rattle.contracts.specs.Views.{table_of};
 
 use crate::contract::Contract;
-use crate::line::Line;
+use crate::line::{Line, RestOf};
 use crate::table::ContractTable;
 use calendar::Maturity;
 use days::Day;
@@ -19,7 +19,7 @@ impl<P: Drop> ContractTable<P> {
         ensures { IfOk result (λ v. map (seen self.now.date.number) v.items ≡ lines (table_of self.now)) }
     {
         let mut lines = Vec::new(heap);
-        for i in self.instruments.iter() {
+        for i in self.instruments.rows.iter() {
             self.push_timely(i.number, &mut lines)?;
         }
         self.push_own(&mut lines)?;
@@ -30,8 +30,8 @@ impl<P: Drop> ContractTable<P> {
         ensures { OnOk result (map (seen self.now.date.number) lines.new.items ≡ map (seen self.now.date.number) lines.old.items ++ timely (table_of self.now) instrument) }
     {
         self.push_days(instrument, lines)?;
-        lines.push(Line::Rest(instrument, false))?;
-        lines.push(Line::Rest(instrument, true))?;
+        lines.push(Line::Rest(instrument, RestOf::ThisMonth))?;
+        lines.push(Line::Rest(instrument, RestOf::NextMonth))?;
         Ok(())
     }
 
@@ -47,7 +47,7 @@ impl<P: Drop> ContractTable<P> {
     fn push_own(&self, lines: &mut Vec<Line>) -> Result<(), AllocError>
         ensures { OnOk result (map (seen self.now.date.number) lines.new.items ≡ map (seen self.now.date.number) lines.old.items ++ owns (table_of self.now) 0 (table_of self.now).contracts) }
     {
-        for (i, c) in self.contracts.iter().enumerate() {
+        for (i, c) in self.contracts.rows.iter().enumerate() {
             if self.has_line(*c) {
                 lines.push(Line::Own(i))?;
             }
@@ -59,6 +59,6 @@ impl<P: Drop> ContractTable<P> {
     pub fn has_line(&self, contract: Contract) -> bool
         ensures { result ≡ has_line (table_of self.now) (listed contract) }
     {
-        self.is_open(contract.terms) && !contract.terms.maturity.is(Maturity::SingleDay)
+        self.is_open(contract.terms) && contract.terms.maturity != Maturity::SingleDay
     }
 }

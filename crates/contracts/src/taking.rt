@@ -1,13 +1,12 @@
-ghost use Rattle.std.specs.Prelude.{◌≡◌, ◌+◌, ◌<◌, is_some, if◌then◌else◌, nat_lt};
-ghost use Rattle.days.specs.Months.{month_of};
+ghost use Rattle.std.specs.Prelude.{◌≡◌, ◌<◌, ◌≤◌, is_some, nat_lt};
 ghost use Rattle.contracts.specs.Lines.{within, week_with, part_with, some_week, some_part, own_takes_by, rest, takes, delivers};
 ghost use Rattle.contracts.specs.Rows.{listed, row_in};
-ghost use Rattle.contracts.specs.Seen.{seen};
+ghost use Rattle.contracts.specs.Seen.{rest_month, seen};
 ghost use Rattle.contracts.specs.Table.{covers, nth, size};
 ghost use Rattle.contracts.specs.Views.{table_of};
 
 use crate::contract::Contract;
-use crate::line::Line;
+use crate::line::{Line, RestOf};
 use crate::table::ContractTable;
 use calendar::Maturity;
 use days::Day;
@@ -23,12 +22,13 @@ impl<P: Drop> ContractTable<P> {
             && (contract.terms.first.month() == month && contract.last.month() == month)
     }
 
-    // Whether a contract is a week of the instrument that holds the day within its month.
+    // Whether a contract is a week of the instrument that holds the day within its month. Instrument and day stay two
+    // parameters: a struct of both would be taken apart again in each body.
     fn is_week_with(&self, instrument: u8, day: Day, contract: Contract) -> bool
         ensures { result ≡ week_with (table_of self.now) instrument day.number (listed contract) }
     {
         contract.terms.instrument == instrument
-            && contract.terms.maturity.is(Maturity::Week)
+            && contract.terms.maturity == Maturity::Week
             && self.is_within(contract, day)
     }
 
@@ -36,32 +36,30 @@ impl<P: Drop> ContractTable<P> {
     fn is_part_with(&self, instrument: u8, day: Day, contract: Contract) -> bool
         ensures { result ≡ part_with (table_of self.now) instrument day.number (listed contract) }
     {
-        let maturity = contract.terms.maturity;
         contract.terms.instrument == instrument
-            && (maturity.is(Maturity::Workdays) || maturity.is(Maturity::Weekend))
+            && matches!(
+                contract.terms.maturity,
+                Maturity::Workdays | Maturity::Weekend
+            )
             && self.is_within(contract, day)
     }
 
     fn has_week(&self, instrument: u8, day: Day) -> bool
         ensures { result ≡ some_week (table_of self.now) instrument day.number }
     {
-        for c in self.contracts.iter() {
-            if self.is_week_with(instrument, day, *c) {
-                return true;
-            }
-        }
-        false
+        self.contracts
+            .rows
+            .iter()
+            .any(|c| self.is_week_with(instrument, day, *c))
     }
 
     fn has_part(&self, instrument: u8, day: Day) -> bool
         ensures { result ≡ some_part (table_of self.now) instrument day.number }
     {
-        for c in self.contracts.iter() {
-            if self.is_part_with(instrument, day, *c) {
-                return true;
-            }
-        }
-        false
+        self.contracts
+            .rows
+            .iter()
+            .any(|c| self.is_part_with(instrument, day, *c))
     }
 
     // The contract at a place of the table.
@@ -69,11 +67,7 @@ impl<P: Drop> ContractTable<P> {
         ensures row { row_in result ≡ nth (table_of self.now) place }
         ensures there { is_some result ≡ nat_lt place (size (table_of self.now)) }
     {
-        if place < self.contracts.len() {
-            Some(self.contracts[place])
-        } else {
-            None
-        }
+        self.contracts.rows.get(place).copied()
     }
 
     // Whether an open week, or part of a week, takes the day: a week goes before its parts.
@@ -81,19 +75,27 @@ impl<P: Drop> ContractTable<P> {
         ensures { result ≡ own_takes_by (table_of self.now) (listed contract) day.number }
     {
         let instrument = contract.terms.instrument;
-        self.horizon.number < day.number
+        self.horizon < day
             && (self.is_week_with(instrument, day, contract)
                 || self.is_part_with(instrument, day, contract) && !self.has_week(instrument, day))
     }
 
-    // Whether the rest of a month takes the day.
-    fn rest_takes(&self, instrument: u8, next: bool, day: Day) -> bool
-        ensures { result ≡ takes (table_of self.now) (rest instrument (if next then month_of self.now.date.number + 1 else month_of self.now.date.number)) day.number }
+    // The month that is the date's, or the one after it.
+    fn rest_month(&self, which: RestOf) -> u16
+        ensures { result ≡ rest_month self.now.date.number which }
     {
-        let this = self.date.month();
-        let month = if next { this + 1 } else { this };
-        day.number > self.horizon.number
-            && (day.month() == month
+        match which {
+            RestOf::ThisMonth => self.date.month(),
+            RestOf::NextMonth => self.date.month() + 1,
+        }
+    }
+
+    // Whether the rest of a month takes the day.
+    fn rest_takes(&self, instrument: u8, which: RestOf, day: Day) -> bool
+        ensures { result ≡ takes (table_of self.now) (rest instrument (rest_month self.now.date.number which)) day.number }
+    {
+        day > self.horizon
+            && (day.month() == self.rest_month(which)
                 && !(self.has_week(instrument, day) || self.has_part(instrument, day)))
     }
 
@@ -102,12 +104,11 @@ impl<P: Drop> ContractTable<P> {
         ensures { result ≡ takes (table_of self.now) (seen self.now.date.number line) day.number }
     {
         match line {
-            Line::Day(_, own) => own.number == day.number && day.number <= self.horizon.number,
-            Line::Rest(instrument, next) => self.rest_takes(instrument, next, day),
-            Line::Own(place) => match self.contract_at(place) {
-                Some(contract) => self.own_takes(contract, day),
-                None => false,
-            },
+            Line::Day(_, own) => own == day && day <= self.horizon,
+            Line::Rest(instrument, which) => self.rest_takes(instrument, which, day),
+            Line::Own(place) => self
+                .contract_at(place)
+                .is_some_and(|contract| self.own_takes(contract, day)),
         }
     }
 
@@ -116,20 +117,11 @@ impl<P: Drop> ContractTable<P> {
         ensures { result ≡ delivers (table_of self.now) (seen self.now.date.number line) day.number }
     {
         match line {
-            Line::Day(_, own) => own.number == day.number,
-            Line::Rest(instrument, next) => self.rest_takes(instrument, next, day),
-            Line::Own(place) => match self.contract_at(place) {
-                Some(contract) => contract.covers(day),
-                None => false,
-            },
+            Line::Day(_, own) => own == day,
+            Line::Rest(instrument, which) => self.rest_takes(instrument, which, day),
+            Line::Own(place) => self
+                .contract_at(place)
+                .is_some_and(|contract| contract.covers(day)),
         }
-    }
-}
-
-impl Contract {
-    pub fn covers(self, day: Day) -> bool
-        ensures { result ≡ covers (listed self) day.number }
-    {
-        self.terms.first.number <= day.number && day.number <= self.last.number
     }
 }

@@ -2,6 +2,7 @@ use calendar::{Load, Maturity};
 use contracts::{ContractTable, Instrument, Kind, Terms};
 use days::Day;
 use std::alloc::Global;
+use std::process::Abort;
 use std::test::Fail;
 use terms::{Failure, Refusal};
 
@@ -25,7 +26,6 @@ fn april(heap: Global) -> Result<ContractTable<Load>, Failure> {
 // Adds a contract to that table.
 fn added(
     heap: Global,
-    number: u16,
     instrument: u8,
     maturity: Maturity,
     first: i64,
@@ -35,13 +35,26 @@ fn added(
     let first = Day::from_number(first)?;
     let registration = Day::from_number(registration)?;
     table.add_contract(Terms {
-        number,
+        number: 1,
         instrument,
         maturity,
         first,
         registration,
     })?;
     Ok(())
+}
+
+// Each contract alone is answered so, given by its instrument, its maturity, its first and its last registration day.
+fn check_added(
+    rt: &impl Abort,
+    heap: Global,
+    contracts: &[(u8, Maturity, i64, i64)],
+    answer: Result<(), Failure>,
+) {
+    for (instrument, maturity, first, registration) in contracts {
+        let added = added(heap, *instrument, *maturity, *first, *registration);
+        assert_eq!(rt; added, answer);
+    }
 }
 
 #[test]
@@ -61,12 +74,7 @@ fn contracts_that_are_taken(rt: HostRuntime) {
         (1, Maturity::Quarter, 20260701, 20260629),
         (2, Maturity::Month, 20260501, 20260428),
     ];
-    for (instrument, maturity, first, registration) in some {
-        assert_eq!(rt;
-            added(rt.alloc(), 1, instrument, maturity, first, registration),
-            Ok(())
-        );
-    }
+    check_added(&rt, rt.alloc(), &some, Ok(()));
 }
 
 #[test]
@@ -85,13 +93,8 @@ fn dates_that_are_refused(rt: HostRuntime) {
         (1, Maturity::Quarter, 20260701, 20260414),
         (2, Maturity::Month, 20260501, 20260414),
     ];
-    for (instrument, maturity, first, registration) in some {
-        let refused = Err(Failure::Refused(Refusal::DateRule));
-        assert_eq!(rt;
-            added(rt.alloc(), 1, instrument, maturity, first, registration),
-            refused
-        );
-    }
+    let refused = Err(Failure::Refused(Refusal::DateRule));
+    check_added(&rt, rt.alloc(), &some, refused);
 }
 
 // The lowest number goes first.
@@ -131,6 +134,6 @@ fn order_of_refusals(rt: HostRuntime) -> Result<(), Fail> {
     assert_eq!(rt; table.add_contract(same_number), Err(Refusal::RepeatedKey));
     assert_eq!(rt; table.add_contract(number), Err(Refusal::RepeatedKey));
     assert_eq!(rt; table.add_contract(start), Err(Refusal::DateRule));
-    assert_eq!(rt; table.contracts.len(), 1);
+    assert_eq!(rt; table.contracts.rows.len(), 1);
     Ok(())
 }

@@ -1,40 +1,32 @@
--- The first days of lines, and the letters.
-use Rattle.std.proofs.Common.{◌≡◌, ℕ, ◌+◌, ◌-◌, ◌<◌, ◌≤◌, ltb, [], ◌∷◌, Some, None, sym, refl, ap, ◌∙◌, inl, inr, arith}
-use lib.Utf8.{encode}
+-- The first days of lines.
+use Rattle.std.proofs.Common.{◌≡◌, ℕ, ◌+◌, ◌-◌, ◌<◌, ◌≤◌, ltb, Some, None, Option, refl, ap, ◌∙◌, inl, inr, arith}
 use Rattle.std.proofs.lemmas.Bool.{cases_lt, cond-true, lt-ltb}
-use Rattle.days.specs.Days.{numbered, day_within}
+use Rattle.days.specs.Days.{numbered, day_within, day_found}
+use Rattle.days.specs.declared.day.Day.{Day}
 use Rattle.days.specs.Months.{lengths, month_from, start_from, month_of, month_start, month_end}
 use Rattle.days.proofs.Tiling.{month_within}
-use Rattle.calendar.specs.Periods.{maturity_letter}
-use Rattle.calendar.specs.declared.maturity.Maturity.{Maturity}
-use Rattle.calendar.specs.declared.maturity.Maturity.TheVariants.{SingleDay, Weekend, Workdays, Week, RestOfMonth, Month, Quarter, Season, Year}
 use Rattle.calendar.proofs.Parts.{within_some}
-use Rattle.contracts.specs.Seen.{seen}
-use Rattle.contracts.specs.Table.{Listed, Table, blank, nth}
-use Rattle.contracts.specs.declared.line.Line.{Line}
-use Rattle.contracts.specs.declared.line.Line.TheVariants.{Own}
-use Rattle.lines.specs.Rows.{first_of}
-
-pub letter_byte : (x : Maturity) → encode (maturity_letter x) ≡ maturity_letter x ∷ []
-unfolding encode
-letter_byte SingleDay = refl
-letter_byte Weekend = refl
-letter_byte Workdays = refl
-letter_byte Week = refl
-letter_byte RestOfMonth = refl
-letter_byte Month = refl
-letter_byte Quarter = refl
-letter_byte Season = refl
-letter_byte Year = refl
+use Rattle.contracts.specs.Rows.{row_in}
+use Rattle.contracts.specs.declared.contract.Contract.{Contract}
 
 -- 1 January 2100
 after_all : 21000101 ≡ numbered 36525
 unfolding numbered month_of month_start lengths month_from start_from
 after_all = refl
 
--- a place past the table's end
-pub after_table : (t : Table) (l : Line) (i : ℕ) → l ≡ Own i → blank ≡ nth t i → 21000101 ≡ numbered (first_of t (seen t.date l))
-after_table t l i is none = after_all ∙ ap (λ (x : Listed). numbered x.first) none ∙ sym (ap (λ (k : Line). numbered (first_of t (seen t.date k))) is)
+-- the first day of a contract that is found; a blank row's is past the end
+abbrev pub contract_first : Option Contract → ℕ
+contract_first None = 21000101
+contract_first (Some c) = numbered c.terms.first.number
+
+pub contract_first-row : (found : Option Contract) → contract_first found ≡ numbered (row_in found).first
+contract_first-row None = after_all
+contract_first-row (Some c) = refl
+
+-- the first day after a month, where there is one
+abbrev pub day_first : Option Day → ℕ
+day_first None = 21000101
+day_first (Some d) = numbered d.number
 
 past : (n : ℕ) → None ≡ day_within n → 36525 ≤ n
 past n e = elim (cases_lt n 36525) [
@@ -51,11 +43,9 @@ module _ (d last : ℕ) (end : last ≡ month_end d) where
       let w = month_within d in
       omega arith
 
-  pub next_some : (k : ℕ) → Some k ≡ day_within (last + 1) → k ≡ month_start (month_of d + 1)
-  next_some k e = (within_some (last + 1) k e).0 ∙ next_start
-
-  pub next_none : last < 36525 → None ≡ day_within (last + 1) → 21000101 ≡ numbered (month_start (month_of d + 1))
-  next_none small e =
+  pub day_first-next : last < 36525 → (found : Option Day) → day_found found ≡ day_within (last + 1) → day_first found ≡ numbered (month_start (month_of d + 1))
+  day_first-next small (Some k) e = ap numbered ((within_some (last + 1) k.number e).0 ∙ next_start)
+  day_first-next small None e =
       let p = past (last + 1) e in
       let s = next_start in
       let is : 36525 ≡ month_start (month_of d + 1) = omega arith in

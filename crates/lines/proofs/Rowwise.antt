@@ -1,6 +1,6 @@
 -- The report on a line, and on those that follow it.
-use Rattle.std.proofs.Common.{◌≡◌, ℕ, ◌+◌, ◌<◌, ◌≤◌, List, [], ◌∷◌, ◌++◌, map, length, get_or, drop, ℤ, vec_items, sym, ap, ◌∙◌, append_assoc}
-use Rattle.std.proofs.lemmas.List.{append-nil, at_drop_more, at_drop_all}
+use Rattle.std.proofs.Common.{◌≡◌, ℕ, ◌+◌, ◌<◌, List, [], ◌∷◌, ◌++◌, map, length, get_or, drop, ℤ, vec_items, sym, ap, ◌∙◌, append_assoc}
+use Rattle.std.proofs.lemmas.List.{at_drop_more}
 use Rattle.calendar.specs.Loads.{load_mask}
 use Rattle.calendar.specs.declared.load.Load.{Load}
 use Rattle.contracts.specs.Hours.{mask_in}
@@ -15,7 +15,7 @@ use Rattle.lines.specs.Rows.{row_of, rows_from, report_of}
 
 module _ (s : ContractTable Load) where
   abbrev masks : ℕ → ℕ → ℕ
-  masks = mask_in load_mask (vec_items s.instruments)
+  masks = mask_in load_mask (vec_items s.instruments.rows)
 
   -- the row of a line of the code
   abbrev row_at : ℤ → ℤ → Line → List ℕ
@@ -32,9 +32,6 @@ module _ (s : ContractTable Load) where
     abbrev left : ℕ → List Line → List ℕ
     left i ks = rows i (map (seen s.date.number) ks)
 
-    pub none_yet : (ls : List Line) (done : List ℕ) → done ≡ [] → map (seen s.date.number) ls ≡ spec.lines (table_of s) → done ++ left 0 ls ≡ whole
-    none_yet ls done e all = ap (λ (bs : List ℕ). bs ++ left 0 ls) e ∙ ap (rows 0) all
-
     module _ (ls : List Line) (done : List ℕ) (i : ℕ) (inv : done ++ left i (drop i ls) ≡ whole) where
       pub one_more : (l : Line) (row more : List ℕ) (before after : ℤ) → i < length ls → l ≡ get_or ls i l → more ≡ done ++ (row ++ 10 ∷ []) → row ≡ row_at before after l → before ≡ placed (vec_items p.before) i → after ≡ placed (vec_items p.netted) i → more ++ left (i + 1) (drop (i + 1) ls) ≡ whole
       one_more l row more before after h at added is b a =
@@ -45,6 +42,3 @@ module _ (s : ContractTable Load) where
           ∙ append_assoc done (row_at x y (get_or ls i l) ++ 10 ∷ []) (left (i + 1) (drop (i + 1) ls))
           ∙ ap (λ (r : List ℕ). done ++ r) (sym (at_drop_more (left i) ls i l h))
           ∙ inv
-
-      pub no_more : length ls ≤ i → done ≡ whole
-      no_more h = sym (ap (λ (r : List ℕ). done ++ r) (at_drop_all (left i) ls i h) ∙ append-nil done) ∙ inv

@@ -5,7 +5,7 @@ use std::alloc::Global;
 use terms::{Failure, Refusal};
 
 // A contract of the example, by the numbers of its days, and what the account holds of it.
-#[derive(Clone, Copy)]
+#[derive(Clone, Copy, PartialEq, Eq, Debug)]
 pub(crate) struct Holding {
     maturity: Maturity,
     first: i64,
@@ -49,16 +49,10 @@ pub(crate) fn example_table(
         kind: Kind::Future,
         profile: Load::Base,
     })?;
-    let mut number = 1;
-    for holding in holdings {
+    for (number, holding) in (1..=u16::MAX).zip(holdings) {
         table.add_contract(terms_of(number, *holding)?)?;
-        number = next(number);
     }
     Ok(table)
-}
-
-fn next(number: u16) -> u16 {
-    number.saturating_add(1)
 }
 
 fn terms_of(number: u16, holding: Holding) -> Result<Terms, Refusal> {
@@ -69,12 +63,4 @@ fn terms_of(number: u16, holding: Holding) -> Result<Terms, Refusal> {
         first: Day::from_number(holding.first)?,
         registration: Day::from_number(holding.registration)?,
     })
-}
-
-pub(crate) fn quantities_of(holdings: &[Holding; 8]) -> [i32; 8] {
-    let mut quantities = [0; 8];
-    for i in 0..8 {
-        quantities[i] = holdings[i].quantity;
-    }
-    quantities
 }

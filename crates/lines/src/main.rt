@@ -6,7 +6,7 @@ mod example;
 mod report;
 mod row;
 
-use example::{example_table, holdings, quantities_of};
+use example::{example_table, holdings};
 use positions::positions_of;
 use report::report_of;
 use std::alloc::Global;
@@ -24,7 +24,7 @@ fn main(rt: HostRuntime) -> io::Result<()> {
 fn example_report(heap: Global) -> Result<String, Failure> {
     let held = holdings();
     let table = example_table(heap, &held)?;
-    let positions = positions_of(heap, &table, &quantities_of(&held))?;
-    let text = report_of(heap, &table, &positions)?;
-    Ok(text)
+    let quantities = held.map(|holding| holding.quantity);
+    let positions = positions_of(heap, &table, &quantities)?;
+    Ok(report_of(heap, &table, &positions)?)
 }

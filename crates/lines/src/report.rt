@@ -1,11 +1,11 @@
-ghost use Rattle.std.specs.Prelude.{◌≡◌, [], ◌∷◌, ◌++◌, IfOk, string_bytes, OnOk};
+ghost use Rattle.std.specs.Prelude.{◌≡◌, IfOk, string_bytes};
 ghost use Rattle.calendar.specs.Loads.{load_mask};
 ghost use Rattle.contracts.specs.Hours.{mask_in};
 ghost use Rattle.contracts.specs.Views.{table_of};
 ghost use Rattle.positions.specs.Net.{placed};
-ghost use Rattle.lines.specs.Rows.{written, report_of};
+ghost use Rattle.lines.specs.Rows.{report_of};
 
-use crate::row::{Row, row_of};
+use crate::row::row_of;
 use calendar::Load;
 use contracts::ContractTable;
 use positions::Positions;
@@ -18,14 +18,16 @@ pub fn report_of(
     table: &ContractTable<Load>,
     positions: &Positions,
 ) -> Result<String, AllocError>
-    ensures { IfOk result (λ t. string_bytes t ≡ report_of (mask_in load_mask table.now.instruments.items) (table_of table.now) positions.now.before.items positions.now.netted.items) }
+    ensures { IfOk result (λ t. string_bytes t ≡ report_of (mask_in load_mask table.now.instruments.rows.items) (table_of table.now) positions.now.before.items positions.now.netted.items) }
 {
     let lines = table.lines(heap)?;
     let mut text = String::new(heap);
+    // By place: a line whose position is missing is printed with 0, where `zip` would leave it out.
     for (i, line) in lines.iter().enumerate() {
         let before = at(&positions.before, i);
         let netted = at(&positions.netted, i);
-        add_row(&mut text, row_of(table, *line, before, netted))?;
+        let row = row_of(table, *line, before, netted);
+        writeln!(text, "{row}")?;
     }
     Ok(text)
 }
@@ -34,15 +36,5 @@ pub fn report_of(
 fn at(positions: &[i64], i: usize) -> i64
     ensures { result ≡ placed positions.now i }
 {
-    if i < positions.len() { positions[i] } else { 0 }
-}
-
-// Adds the line for one row.
-fn add_row(text: &mut String, row: Row) -> Result<(), AllocError>
-    ensures { OnOk result (string_bytes text.new ≡ string_bytes text.old ++ (written row ++ 10 ∷ [])) }
-{
-    match writeln!(text, "{row}") {
-        Ok(()) => Ok(()),
-        Err(_) => Err(AllocError),
-    }
+    positions.get(i).copied().unwrap_or(0)
 }

@@ -8,12 +8,12 @@ ghost use Rattle.contracts.specs.Views.{table_of};
 ghost use Rattle.lines.specs.Rows.{called, written, label_of, first_of, row_of};
 
 use calendar::{Load, Maturity};
-use contracts::{ContractTable, Line};
+use contracts::{ContractTable, Line, RestOf};
 use days::Day;
 use std::fmt;
 
 // What a line is called: `day`, `rest` of a month, or the letter of an open contract's maturity.
-#[derive(Clone, Copy)]
+#[derive(Clone, Copy, PartialEq, Eq, Debug)]
 pub enum Label {
     Day,
     Rest,
@@ -28,7 +28,7 @@ impl fmt::Display for Label {
             Label::Day => write!(f, "day"),
             Label::Rest => write!(f, "rest"),
             Label::Contract(maturity) => {
-                let letter = char::from(maturity.letter());
+                let letter = char::from(u8::from(maturity));
                 write!(f, "{letter}")
             }
         }
@@ -36,7 +36,7 @@ impl fmt::Display for Label {
 }
 
 // What is said of a line.
-#[derive(Clone, Copy)]
+#[derive(Clone, Copy, PartialEq, Eq, Debug)]
 pub struct Row {
     pub label: Label,
     pub instrument: u8,
@@ -51,19 +51,21 @@ impl fmt::Display for Row {
     ghost output = { λ r. Some (written r) };
 
     fn fmt<W: fmt::Write>(&self, f: &mut fmt::Formatter<W>) -> fmt::Result {
-        let label = self.label;
-        let instrument = self.instrument;
-        let first = self.first;
-        let hours = self.hours;
-        let before = self.before;
-        let netted = self.netted;
+        let Row {
+            label,
+            instrument,
+            first,
+            hours,
+            before,
+            netted,
+        } = *self;
         write!(f, "{label} {instrument} {first} {hours} {before} {netted}")
     }
 }
 
 // The row of a line with its positions.
 pub fn row_of(table: &ContractTable<Load>, line: Line, before: i64, netted: i64) -> Row
-    ensures { written result ≡ row_of (mask_in load_mask table.now.instruments.items) (table_of table.now) (seen table.now.date.number line) before netted }
+    ensures { written result ≡ row_of (mask_in load_mask table.now.instruments.rows.items) (table_of table.now) (seen table.now.date.number line) before netted }
 {
     Row {
         label: label_of(table, line),
@@ -81,11 +83,12 @@ fn label_of(table: &ContractTable<Load>, line: Line) -> Label
     match line {
         Line::Day(_, _) => Label::Day,
         Line::Rest(_, _) => Label::Rest,
-        Line::Own(place) => match table.contract_at(place) {
-            Some(contract) => Label::Contract(contract.terms.maturity),
-            // No line has a place past the table's end.
-            None => Label::Contract(Maturity::SingleDay),
-        },
+        // No line has a place past the table's end.
+        Line::Own(place) => Label::Contract(
+            table
+                .contract_at(place)
+                .map_or(Maturity::SingleDay, |contract| contract.terms.maturity),
+        ),
     }
 }
 
@@ -94,12 +97,11 @@ fn first_of(table: &ContractTable<Load>, line: Line) -> u32
 {
     match line {
         Line::Day(_, day) => day.to_number(),
-        Line::Rest(_, false) => table.date.first_of_month().to_number(),
-        Line::Rest(_, true) => first_after(table.date),
-        Line::Own(place) => match table.contract_at(place) {
-            Some(contract) => contract.terms.first.to_number(),
-            None => AFTER_ALL,
-        },
+        Line::Rest(_, RestOf::ThisMonth) => table.date.first_of_month().to_number(),
+        Line::Rest(_, RestOf::NextMonth) => first_after(table.date),
+        Line::Own(place) => table
+            .contract_at(place)
+            .map_or(AFTER_ALL, |contract| contract.terms.first.to_number()),
     }
 }
 
@@ -110,8 +112,7 @@ const AFTER_ALL: u32 = 21_000_101;
 fn first_after(date: Day) -> u32
     ensures { result ≡ numbered (month_start (month_of date.number + 1)) }
 {
-    match date.last_of_month().plus(1) {
-        Some(day) => day.to_number(),
-        None => AFTER_ALL,
-    }
+    date.last_of_month()
+        .plus(1)
+        .map_or(AFTER_ALL, |day| day.to_number())
 }

@@ -1,13 +1,12 @@
 -- Relations netted one after another.
-use Rattle.std.proofs.Common.{◌≡◌, ℕ, suc, ◌+◌, ◌-◌, ◌<◌, ◌≤◌, min, Bool, true, false, cond, ◌&&◌, List, [], ◌∷◌, ◌++◌, ℤ, pos, nat_abs, ◌≤ℤ◌, sym, refl, ap, ◌∙◌, ap₂, arith}
-use borrow.Author.Differences.{ints, abs_is}
+use Rattle.std.proofs.Common.{◌≡◌, ℕ, suc, ◌+◌, ◌-◌, ◌<◌, min, Bool, true, false, cond, ◌&&◌, List, [], ◌∷◌, ◌++◌, ℤ, nat_abs, sym, refl, ap, ◌∙◌, ap₂, arith}
 use Rattle.std.specs.List.{range_with_len}
-use Rattle.std.proofs.lemmas.Int.{by_lt_z}
+use Rattle.std.proofs.lemmas.Bool.{cond-true, cond-false}
 use Rattle.contracts.specs.Table.{Table}
-use Rattle.positions.specs.Net.{Places, Relation, opposite, all_opposite, arbitrage, smallest, towards, is_in, net, net_all, Nearer}
+use Rattle.positions.specs.Net.{Places, Relation, opposite, all_opposite, arbitrage, smallest, towards, is_in, net, net_all}
+use Rattle.positions.specs.Steps.{related}
 use Rattle.positions.specs.Netted.{Tier, is_listed, relation_of, relations_over}
 use Rattle.positions.proofs.Conserving.{Below, AllWhole}
-use Rattle.positions.proofs.Signs.{net_all_nearer}
 
 -- ---- netting of equal positions
 opposite_same : (p q : Places) (a : ℤ) (os : List ℕ) → ((i : ℕ) → p i ≡ q i) → all_opposite p a os ≡ all_opposite q a os
@@ -49,20 +48,13 @@ one_place t x n i p q whole h e so k =
     ∙ sym (over_first t x i (range_with_len (i + 1) (n - (i + 1))) p k)
     ∙ ap (λ c. net_all (relations_over t x (range_with_len i c)) p k) (sym s) ∙ so k
 
-pub all_places : (t : Table) (x : Tier) (n i : ℕ) (p whole : Places) → n ≤ i → ((k : ℕ) → net_all (relations_over t x (range_with_len i (n - i))) p k ≡ whole k) → (k : ℕ) → p k ≡ whole k
-all_places t x n i p whole h so k =
-    let s : n - i ≡ 0 = omega arith in
-    ap (λ c. net_all (relations_over t x (range_with_len i c)) p k) (sym s) ∙ so k
+-- the relation of one place is netted, or there is none
+pub place_netted : (t : Table) (x : Tier) (i : ℕ) (found : List ℕ) (p q : Places) → is_listed t x i ≡ true → found ≡ (relation_of t x i).others → ((k : ℕ) → q k ≡ net (related i found) p k) → (k : ℕ) → q k ≡ net_all (relations_over t x (i ∷ [])) p k
+place_netted t x i found p q listed others e k =
+    e k ∙ ap (λ (os : List ℕ). net (related i os) p k) others ∙ sym (ap (λ (rs : List Relation). net_all rs p k) (cond-true (is_listed t x i) (relation_of t x i ∷ []) [] listed))
 
--- ---- netting makes no position larger
-nearer_size : (a b : ℤ) → Nearer a b → nat_abs b ≤ nat_abs a
-nearer_size a b h = by_sign h.above h.below
-  where
-    by_sign : (pos 0 ≤ℤ a → (pos 0 ≤ℤ b) × (b ≤ℤ a)) → (a ≤ℤ pos 0 → (b ≤ℤ pos 0) × (a ≤ℤ b)) → nat_abs b ≤ nat_abs a
-    by_sign up down = by_lt_z (pos 0) a (λ l. (let u = up (omega (arith, ints)) in let v = u.0 in let w = u.1 in omega (arith, ints, abs_is))) (λ l. (let u = down l in let v = u.0 in let w = u.1 in omega (arith, ints, abs_is)))
-
-pub net_all_size : (rs : List Relation) (p : Places) (i n : ℕ) → nat_abs (p i) ≤ n → nat_abs (net_all rs p i) ≤ n
-net_all_size rs p i n h = let s = nearer_size (p i) (net_all rs p i) (net_all_nearer rs p i) in omega arith
+pub place_left : (t : Table) (x : Tier) (i : ℕ) (p q : Places) → is_listed t x i ≡ false → ((k : ℕ) → q k ≡ p k) → (k : ℕ) → q k ≡ net_all (relations_over t x (i ∷ [])) p k
+place_left t x i p q not_listed e k = e k ∙ sym (ap (λ (rs : List Relation). net_all rs p k) (cond-false (is_listed t x i) (relation_of t x i ∷ []) [] not_listed))
 
 -- ---- equal positions of the table's contracts
 agree_opposite : (n : ℕ) (p q : Places) (a : ℤ) (os : List ℕ) → Below n os → ((i : ℕ) → i < n → p i ≡ q i) → all_opposite p a os ≡ all_opposite q a os

@@ -1,14 +1,13 @@
 -- Positions gathered one after another.
-use Rattle.std.proofs.Common.{◌≡◌, ℕ, ◌+◌, ◌^◌, ◌<◌, ◌≤◌, List, [], ◌∷◌, ◌++◌, map, length, get_or, take, ℤ, pos, nat_abs, IfOk, Ok, Err, Result, sym, refl, ap, ◌∙◌, subst, inl, inr, arith, lit≤, below_more}
-use Rattle.std.specs.List.{AllByRecursion as All}
-use Rattle.std.proofs.lemmas.List.{get_or_append_left, get_or_push, get_or_past, length_push, map_more}
+use Rattle.std.proofs.Common.{◌≡◌, ℕ, ◌^◌, zero-add, ◌<◌, ◌≤◌, List, [], ◌∷◌, map, length, ℤ, pos, nat_abs, IfOk, Ok, Err, Result, sym, refl, ap, ◌∙◌, subst, inl, inr, arith, lit≤}
+use Rattle.std.specs.List.{AllByRecursion as All, range_with_len, zip}
+use Rattle.std.proofs.lemmas.List.FromFn.{length-range_with_len, get_or-range_with_len}
+use Rattle.std.proofs.lemmas.List.{get_or_past, get_or-map, length-map}
 use Rattle.std.proofs.lemmas.Bool.{cases_lt}
 use Rattle.contracts.specs.Lines as lined
 use Rattle.contracts.specs.Lines.{day, rest, own, lines}
-use Rattle.contracts.specs.Seen.{seen}
 use Rattle.contracts.specs.Table.{Table, size}
 use Rattle.contracts.specs.Views.{table_of}
-use Rattle.contracts.specs.declared.line.Line.{Line}
 use Rattle.contracts.specs.declared.table.ContractTable.{ContractTable}
 use Rattle.positions.specs.Net.{placed, net_all}
 use Rattle.positions.specs.Netted.{owned, netted, relations}
@@ -20,47 +19,25 @@ use Rattle.positions.proofs.Kept.{all_whole}
 use Rattle.positions.proofs.Taking.{OfTable}
 
 -- ---- the contracts' own lines
-pub record Gathered (f : ℕ → ℤ) (xs : List ℤ) (i : ℕ) : Type 0 where
-  pub long : length xs ≡ i
-  pub each : (k : ℕ) → k < i → placed xs k ≡ f k
-  pub small : (k : ℕ) → nat_abs (placed xs k) ≤ 2 ^ 38
-
-pub none_gathered : (f : ℕ → ℤ) (xs : List ℤ) → xs ≡ [] → Gathered f xs 0
-none_gathered f xs e =
-    let n : length xs ≡ 0 = ap length e in
-    record { long = n; each = λ k h. absurd (omega arith); small = λ k. subst (λ (l : List ℤ). nat_abs (placed l k) ≤ 2 ^ 38) (sym e) (lit≤ tt) }
-
-pub one_gathered : (f : ℕ → ℤ) (xs ys : List ℤ) (i : ℕ) (z : ℤ) → Gathered f xs i → ys ≡ xs ++ z ∷ [] → z ≡ f i → nat_abs z ≤ 2 ^ 38 → Gathered f ys (i + 1)
-one_gathered f xs ys i z w e is b =
-    let long = w.long in
-    let n : length ys ≡ length xs + 1 = ap length e ∙ length_push xs z in
-    let here : placed ys i ≡ z = ap (λ (l : List ℤ). placed l i) e ∙ get_or_push xs z (pos 0) i long in
-    let under : (k : ℕ) → k < i → placed ys k ≡ placed xs k = λ k h. ap (λ (l : List ℤ). placed l k) e ∙ get_or_append_left xs (z ∷ []) (pos 0) k (omega arith) in
+pub owned_all : (t : Table) (q : ℕ → ℤ) (n : ℕ) (xs : List ℤ) → n ≡ size t → xs ≡ map (owned t q) (range_with_len 0 n) → ((i : ℕ) → i < length xs → nat_abs (placed xs i) ≤ 2 ^ 38) → OwnAre t q xs
+owned_all t q n xs e is small =
+    let long = length-map (range_with_len 0 n) (owned t q) in
+    let range = length-range_with_len 0 n in
+    let all = ap length is in
+    let at : (i : ℕ) → i < n → placed xs i ≡ owned t q i = λ i l. ap (λ (k : List ℤ). placed k i) is ∙ get_or-map (owned t q) (range_with_len 0 n) i 0 (pos 0) (omega arith) ∙ ap (owned t q) (get_or-range_with_len 0 n i 0 l ∙ zero-add i) in
     record {
       long = omega arith;
-      each = below_more _ _ (λ k h. under k h ∙ w.each k h) (here ∙ is);
-      small = λ k. elim (cases_lt k i) [
-        | inl a ↦ subst (λ y. nat_abs y ≤ 2 ^ 38) (sym (under k a)) (w.small k)
-        | inr a ↦ elim (cases_lt i k) [
-          | inl c ↦ subst (λ y. nat_abs y ≤ 2 ^ 38) (sym (get_or_past ys k (pos 0) (omega arith))) (lit≤ tt)
-          | inr c ↦ (let same : i ≡ k = omega arith in subst (λ j. nat_abs (placed ys j) ≤ 2 ^ 38) same (subst (λ y. nat_abs y ≤ 2 ^ 38) (sym here) b))
-        ]
+      each = λ i l. at i (omega arith);
+      small = λ i. elim (cases_lt i (length xs)) [
+        | inl a ↦ small i a
+        | inr a ↦ subst (λ y. nat_abs y ≤ 2 ^ 38) (sym (get_or_past xs i (pos 0) a)) (lit≤ tt)
       ];
     }
 
-pub all_gathered : (t : Table) (q : ℕ → ℤ) (xs : List ℤ) (i : ℕ) → Gathered (owned t q) xs i → i ≡ size t → OwnAre t q xs
-all_gathered t q xs i w e = record { long = w.long ∙ e; each = λ k h. w.each k (omega arith); small = w.small }
-
 -- ---- all lines
-pub one_line : (d : ℕ) (f : lined.Line → ℤ) (ls : List Line) (xs ys : List ℤ) (i : ℕ) (l : Line) (z : ℤ) → i < length ls → l ≡ get_or ls i l → xs ≡ map f (map (seen d) (take i ls)) → ys ≡ xs ++ z ∷ [] → z ≡ f (seen d l) → ys ≡ map f (map (seen d) (take (i + 1) ls))
-one_line d f ls xs ys i l z h at so e is =
-    e ∙ ap (λ (k : List ℤ). k ++ z ∷ []) so
-    ∙ ap (λ y. map f (map (seen d) (take i ls)) ++ y ∷ []) (is ∙ ap (λ (m : Line). f (seen d m)) at)
-    ∙ sym (ap (map f) (map_more (seen d) ls i l h) ∙ map_push' (map (seen d) (take i ls)) (seen d (get_or ls i l)))
-  where
-    map_push' : (ks : List lined.Line) (k : lined.Line) → map f (ks ++ k ∷ []) ≡ map f ks ++ f k ∷ []
-    map_push' [] k = refl
-    map_push' (x ∷ ks) k = ap (λ (r : List ℤ). f x ∷ r) (map_push' ks k)
+pub zip_on : {X Y Z : Type 0} (g : X → Y) (f : X → Y → Z) (xs : List X) → map (λ (p : X × Y). f p.0 p.1) (zip xs (map g xs)) ≡ map (λ x. f x (g x)) xs
+zip_on g f [] = refl
+zip_on {Z = Z} g f (x ∷ xs) = ap (λ (r : List Z). f x (g x) ∷ r) (zip_on g f xs)
 
 map_all : (P : lined.Line → Type 0) (f g : lined.Line → ℤ) (ls : List lined.Line) → All P ls → ((l : lined.Line) → P l → f l ≡ g l) → map f ls ≡ map g ls
 map_all P f g [] a h = refl

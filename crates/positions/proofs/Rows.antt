@@ -1,23 +1,23 @@
 -- Steps along the row of the others.
-use Rattle.std.proofs.Common.{◌≡◌, ℕ, zero, suc, ◌+◌, ◌<◌, ◌≤◌, min, Bool, true, false, cond, ◌&&◌, ◌||◌, eqb, List, [], ◌∷◌, ◌++◌, length, get_or, take, drop, set, ℤ, pos, nat_abs, sym, refl, ap, ◌∙◌, subst, inl, inr, add-one, arith, drop-cons}
+use Rattle.std.proofs.Common.{◌≡◌, ℕ, zero, suc, ◌+◌, ◌<◌, ◌≤◌, min, Bool, true, false, cond, ◌||◌, eqb, List, [], ◌∷◌, ◌++◌, length, get_or, take, set, ℤ, pos, nat_abs, fold, sym, refl, ap, ◌∙◌, subst, inl, inr, arith}
 use Rattle.std.proofs.lemmas.List.{take_more, get_or-set_same, get_or-set_other}
 use Rattle.std.proofs.lemmas.Bool.{or_left, or_right, or_from, eq-eqb, ne_eqb, both_ways, cases_eq, cond-true, cond-false}
 use Rattle.positions.specs.Steps.{taken, Distinct}
-use Rattle.positions.specs.Net.{Places, opposite, all_opposite, smallest, is_in, placed, towards}
-
--- the rest of the row from i on is the one at i and the rest from i + 1 on
-pub row_more : (os : List ℕ) (i : ℕ) → i < length os → drop i os ≡ get_or os i 0 ∷ drop (i + 1) os
-row_more os i h = drop-cons os i 0 h ∙ ap (λ n. get_or os i 0 ∷ drop n os) (sym (add-one i))
-
-pub opposite_more : (p : Places) (a : ℤ) (os : List ℕ) (i : ℕ) → i < length os → all_opposite p a (drop i os) ≡ (opposite a (p (get_or os i 0)) && all_opposite p a (drop (i + 1) os))
-opposite_more p a os i h = ap (all_opposite p a) (row_more os i h)
-
-pub smallest_more : (p : Places) (f : ℕ) (os : List ℕ) (i : ℕ) → i < length os → smallest p f (drop i os) ≡ min (nat_abs (p (get_or os i 0))) (smallest p f (drop (i + 1) os))
-smallest_more p f os i h = ap (smallest p f) (row_more os i h)
+use Rattle.positions.specs.Net.{Places, smallest, is_in, placed, towards}
 
 pub smallest_le : (p : Places) (f : ℕ) (os : List ℕ) → smallest p f os ≤ nat_abs (p f)
 smallest_le p f [] = omega arith
 smallest_le p f (o ∷ os) = let h = smallest_le p f os in omega arith
+
+fold_smallest : (p : Places) (f : ℕ) (os : List ℕ) (k : ℕ) → k ≤ nat_abs (p f) → fold (λ n o. min n (nat_abs (p o))) k os ≡ min k (smallest p f os)
+fold_smallest p f [] k h = omega arith
+fold_smallest p f (o ∷ os) k h = let r = fold_smallest p f os (min k (nat_abs (p o))) (omega arith) in omega arith
+
+pub fold-smallest : (p : Places) (f : ℕ) (os : List ℕ) → fold (λ n o. min n (nat_abs (p o))) (nat_abs (p f)) os ≡ smallest p f os
+fold-smallest p f os =
+    let s = fold_smallest p f os (nat_abs (p f)) (omega arith) in
+    let l = smallest_le p f os in
+    omega arith
 
 -- ---- one more of the row
 pub in_push : (i : ℕ) (os : List ℕ) (o : ℕ) → is_in i (os ++ (o ∷ [])) ≡ (eqb i o || is_in i os)

@@ -1,46 +1,52 @@
-ghost use Rattle.std.specs.Prelude.{◌≡◌, ◌^◌, ◌<◌, ◌≤◌, pos, if◌then◌else◌, unsigned_abs};
+ghost use Rattle.std.specs.Prelude.{◌≡◌, ◌^◌, ◌≤◌, pos, if◌then◌else◌, unsigned_abs};
 ghost use Rattle.contracts.specs.Lines.{reaches};
 ghost use Rattle.contracts.specs.Seen.{seen};
 ghost use Rattle.contracts.specs.Views.{table_of};
 ghost use Rattle.positions.specs.Net.{placed};
 ghost use Rattle.positions.specs.Netted.{position};
 
+use arrayvec::ArrayVec;
 use contracts::{ContractTable, Line};
 use terms::total;
 
-// The quantity of the contract at a place; contracts past the end of the list hold none.
-fn quantity_at(quantities: &[i32], place: usize) -> i64
-    ensures value { result ≡ placed quantities.now place }
-    ensures bound { unsigned_abs result ≤ 2 ^ 31 }
-{
-    if place < quantities.len() {
-        i64::from(quantities[place])
-    } else {
-        0
-    }
+// What an account holds of each contract of a table, by the contracts' places.
+#[derive(Drop)]
+pub(crate) struct Holdings<'a, P> {
+    pub(crate) table: &'a ContractTable<P>,
+    pub(crate) quantities: &'a [i32],
 }
 
-// What the contract at a place gives to a line: its whole quantity, or nothing.
-fn share<P: Drop>(table: &ContractTable<P>, line: Line, quantities: &[i32], place: usize) -> i64
-    ensures value { result ≡ (if reaches (table_of table.now) place (seen table.now.date.number line) then placed quantities.now place else pos 0) }
-    ensures bound { unsigned_abs result ≤ 2 ^ 31 }
-{
-    if table.reaches(place, line) {
-        quantity_at(quantities, place)
-    } else {
-        0
+impl<P: Drop> Holdings<'_, P> {
+    // The quantity of the contract at a place; contracts past the end of the list hold none.
+    fn quantity_at(&self, place: usize) -> i64
+        ensures value { result ≡ placed self.now.quantities.now place }
+        ensures bound { unsigned_abs result ≤ 2 ^ 31 }
+    {
+        self.quantities.get(place).map_or(0, |q| i64::from(*q))
     }
-}
 
-// A line's position: the sum of what reaches it.
-pub(crate) fn position_of<P: Drop>(table: &ContractTable<P>, line: Line, quantities: &[i32]) -> i64
-    ensures value { result ≡ position (table_of table.now) (placed quantities.now) (seen table.now.date.number line) }
-    ensures bound { unsigned_abs result ≤ 2 ^ 38 }
-{
-    let count = table.contracts.len();
-    let mut shares = [0; 128];
-    for i in 0..count {
-        shares[i] = share(table, line, quantities, i);
+    // What the contract at a place gives to a line: its whole quantity, or nothing.
+    fn share(&self, line: Line, place: usize) -> i64
+        ensures value { result ≡ (if reaches (table_of self.now.table.now) place (seen self.now.table.now.date.number line) then placed self.now.quantities.now place else pos 0) }
+        ensures bound { unsigned_abs result ≤ 2 ^ 31 }
+    {
+        if self.table.reaches(place, line) {
+            self.quantity_at(place)
+        } else {
+            0
+        }
     }
-    total(&shares[0..count])
+
+    // A line's position: the sum of what reaches it.
+    pub(crate) fn position_of(&self, line: Line) -> i64
+        ensures value { result ≡ position (table_of self.now.table.now) (placed self.now.quantities.now) (seen self.now.table.now.date.number line) }
+        ensures bound { unsigned_abs result ≤ 2 ^ 38 }
+    {
+        let mut shares: ArrayVec<i64, 128> = ArrayVec::new();
+        // By place, since it is by its place that a contract reaches a line.
+        for place in 0..self.table.contracts.rows.len() {
+            shares.push(self.share(line, place));
+        }
+        total(&shares)
+    }
 }

@@ -4,9 +4,11 @@
 mod breakdown;
 mod example;
 mod netting;
+mod own;
 mod positions;
 mod relation;
 mod step;
+mod tier;
 
 pub use example::published_netting;
 pub use positions::{Positions, positions_of};

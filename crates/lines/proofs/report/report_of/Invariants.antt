@@ -9,5 +9,5 @@ use Rattle.lines.proofs.report.report_of.Given as goal
 
 abbrev pub invariant-loop-i : goal.invariant-loop-i
 invariant-loop-i l =
-    string_bytes l.text ++ rows_from (mask_in load_mask (vec_items l.table.instruments)) (table_of l.table) (placed (vec_items l.positions.before)) (placed (vec_items l.positions.netted)) l.i (map (seen l.table.date.number) (drop l.i l.line-items))
-    ≡ report_of (mask_in load_mask (vec_items l.table.instruments)) (table_of l.table) (vec_items l.positions.before) (vec_items l.positions.netted)
+    string_bytes l.text ++ rows_from (mask_in load_mask (vec_items l.table.instruments.rows)) (table_of l.table) (placed (vec_items l.positions.before)) (placed (vec_items l.positions.netted)) l.i (map (seen l.table.date.number) (drop l.i l.line-items))
+    ≡ report_of (mask_in load_mask (vec_items l.table.instruments.rows)) (table_of l.table) (vec_items l.positions.before) (vec_items l.positions.netted)

@@ -1,10 +1,8 @@
-use Rattle.std.proofs.Common.{ap, ◌∙◌}
-use Rattle.days.specs.Days.{numbered}
-use Rattle.lines.proofs.Firsts.{next_some, next_none}
+use Rattle.std.proofs.Common.{◌≡◌, ◌∙◌, rules}
+use Rattle.lines.proofs.Firsts.{day_first, day_first-next}
 use Rattle.lines.proofs.row.first_after.Goals as goal
 
-pub returns-in-Some : goal.returns-in-Some
-returns-in-Some c = c.to_number.ensures.value ∙ ap numbered (next_some _ _ c.last_of_month.ensures.value _ c.in-Some.ensures)
-
-pub returns-in-None : goal.returns-in-None
-returns-in-None c = next_none _ _ c.last_of_month.ensures.value c.last_of_month.result.within c.in-None.ensures
+pub returns : goal.returns
+returns c =
+    let found : c.map_or.result ≡ day_first c.plus.result = search rules in
+    found ∙ day_first-next c.args.date.number c.last_of_month.result.number c.last_of_month.ensures.value c.last_of_month.result.within c.plus.result c.plus.ensures

@@ -19,7 +19,7 @@ loop-number-preserved g c =
     let v = c.line_hours_on-sum.ensures.value in
     let b = c.line_hours_on-sum.ensures.bound in
     let i = c.loop-number.invariant in
-    let more = hours_more (delivers (table_of s) l) (mask_in g.P.Profile.mask (vec_items s.instruments) (instr_of (table_of s) l)) c.loop-number.number in
+    let more = hours_more (delivers (table_of s) l) (mask_in g.P.Profile.mask (vec_items s.instruments.rows) (instr_of (table_of s) l)) c.loop-number.number in
     (omega (arith, i.0, v, more), omega (arith, i.1, b))
 
 pub returns : goal.returns

@@ -8,5 +8,5 @@ use Rattle.contracts.proofs.table.ContractTable.lines.Given as goal
 
 abbrev pub invariant-loop-i : goal.invariant-loop-i
 invariant-loop-i g l =
-    map (seen l.self.date.number) (vec_items l.lines) ++ all_timely (table_of l.self) (numbers_of (drop l.i-index (vec_items l.self.instruments)))
+    map (seen l.self.date.number) (vec_items l.lines) ++ all_timely (table_of l.self) (numbers_of (drop l.i-index (vec_items l.self.instruments.rows)))
     ≡ all_timely (table_of l.self) (numbers (table_of l.self))
