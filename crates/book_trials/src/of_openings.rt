@@ -1,16 +1,8 @@
-use crate::setup::accounts;
-use bookkeeping::Account;
-use opening::{Limit, Opened};
+use crate::setup::{accounts, opened};
+use books::Account;
+use opening::Limit;
 use std::test::Fail;
-use terms::{Amount, Refusal};
-
-fn opened(account: u16, contract: u16, quantity: i64, value: i64) -> Opened {
-    Opened {
-        account,
-        contract,
-        amount: Amount { quantity, value },
-    }
-}
+use terms::Refusal;
 
 #[test]
 fn accounts_that_are_refused(rt: HostRuntime) -> Result<(), Fail> {
@@ -26,7 +18,7 @@ fn accounts_that_are_refused(rt: HostRuntime) -> Result<(), Fail> {
         let account = Account { number, agent };
         assert_eq!(rt; opening.add_account(account), Err(refusal));
     }
-    assert_eq!(rt; opening.accounts.len(), 4);
+    assert_eq!(rt; opening.accounts.rows.len(), 4);
     Ok(())
 }
 
@@ -75,7 +67,7 @@ fn opening_positions(rt: HostRuntime) -> Result<(), Fail> {
     for (row, answer) in some {
         assert_eq!(rt; opening.add_opening(row), answer);
     }
-    assert_eq!(rt; opening.rows.len(), 4);
+    assert_eq!(rt; opening.rows.rows.len(), 4);
     Ok(())
 }
 
@@ -99,6 +91,6 @@ fn limits_at_the_opening(rt: HostRuntime) -> Result<(), Fail> {
         };
         assert_eq!(rt; opening.add_limit(limit), answer);
     }
-    assert_eq!(rt; opening.limits.len(), 2);
+    assert_eq!(rt; opening.limits.rows.len(), 2);
     Ok(())
 }

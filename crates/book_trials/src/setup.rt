@@ -1,4 +1,4 @@
-use bookkeeping::{Account, Book, Call, Entry, Holdings, Trade, drive};
+use books::{Account, Book, Call, Cell, Entry, Trade, drive};
 use calendar::{Load, Maturity};
 use contracts::{ContractTable, Instrument, Kind, Terms};
 use days::Day;
@@ -8,19 +8,8 @@ use std::alloc::{AllocError, Global};
 use std::process::Abort;
 use terms::{Amount, Failure, Refusal};
 
-pub const BLANK: Entry = Entry {
-    trade: Trade {
-        account: 0,
-        contract: 0,
-        quantity: 0,
-        price: 0,
-    },
-    stands: false,
-};
-
-// An account, a contract, and quantity and value at the opening.
-#[derive(Clone, Copy)]
-pub struct Held(pub u16, pub u16, pub i64, pub i64);
+// A call, and what it is to be answered.
+pub type Asked = (Call, Result<u16, Refusal>);
 
 // 16 April 2026. Contracts 7 and 8 are forwards on May and on April, 9 and 10 futures on the third quarter and on May,
 // 11 options on June. April was registered for the last time in March, and May's futures are on this day.
@@ -64,20 +53,23 @@ pub fn accounts(heap: Global) -> Result<Opening, Failure> {
     Ok(opening)
 }
 
-pub fn ground_of(heap: Global, held: &[Held]) -> Result<Ground, Failure> {
+pub fn ground_of(heap: Global, held: &[Opened]) -> Result<Ground, Failure> {
     let mut opening = accounts(heap)?;
-    for h in held {
-        opening.add_opening(Opened {
-            account: h.0,
-            contract: h.1,
-            amount: Amount {
-                quantity: h.2,
-                value: h.3,
-            },
-        })?;
+    for row in held {
+        opening.add_opening(*row)?;
     }
     let ground = Ground::of(heap, &opening)?;
     Ok(ground)
+}
+
+// An account, a contract, and quantity and value at the opening. The program `desk` has one as well, as `enter`: a program
+// and tests share no crate for examples.
+pub fn opened(account: u16, contract: u16, quantity: i64, value: i64) -> Opened {
+    Opened {
+        account,
+        contract,
+        amount: Amount { quantity, value },
+    }
 }
 
 pub fn enter(account: u16, contract: u16, quantity: i32, price: i32) -> Call {
@@ -89,64 +81,74 @@ pub fn enter(account: u16, contract: u16, quantity: i32, price: i32) -> Call {
     })
 }
 
-// What a table book with no limits answers.
+// What a table book with no limits answers. Its journal is an array: it is lent with room for all entries, so that no
+// call takes memory.
 pub fn answers_to(
     heap: Global,
-    held: &[Held],
+    held: &[Opened],
     calls: &[Call],
 ) -> Result<Vec<Result<u16, Refusal>>, Failure> {
     let ground = ground_of(heap, held)?;
-    let mut journal = [BLANK; 4096];
+    let mut journal = [Entry::BLANK; 4096];
     let mut book = TableBook::open(ground, &mut journal);
     let answers = drive(heap, &mut book, calls)?;
     Ok(answers)
 }
 
-pub fn check_answers(
+// Checks what it answers.
+pub fn check_book(
     rt: &impl Abort,
-    answers: &[Result<u16, Refusal>],
-    expected: &[Result<u16, Refusal>],
-) {
-    assert_eq!(rt; answers.len(), expected.len());
-    for (answer, e) in answers.iter().zip(expected.iter()) {
-        assert_eq!(rt; *answer, *e);
+    heap: Global,
+    held: &[Opened],
+    asked: &[Asked],
+) -> Result<(), Failure> {
+    let calls = calls_of(heap, asked)?;
+    let answers = answers_to(heap, held, &calls)?;
+    check_answers(rt, &answers, asked);
+    Ok(())
+}
+
+pub fn calls_of(heap: Global, asked: &[Asked]) -> Result<Vec<Call>, AllocError> {
+    asked.iter().map(|(call, _)| *call).collect(heap)
+}
+
+pub fn check_answers(rt: &impl Abort, answers: &[Result<u16, Refusal>], asked: &[Asked]) {
+    assert_eq!(rt; answers.len(), asked.len());
+    for (answer, (_, expected)) in answers.iter().zip(asked) {
+        assert_eq!(rt; *answer, *expected);
     }
 }
 
 // Quantity and value of a cell, at the opening and traded.
-pub fn cell_of<H: Holdings>(
-    book: &H,
-    account: u16,
-    contract: u16,
-) -> Result<(i64, i64, i64, i64), Refusal> {
-    let cell = book.cell(account, contract)?;
-    Ok((
-        cell.opening.quantity,
-        cell.opening.value,
-        cell.traded.quantity,
-        cell.traded.value,
-    ))
+pub fn cell(opening_quantity: i64, opening_value: i64, quantity: i64, value: i64) -> Cell {
+    Cell {
+        opening: Amount {
+            quantity: opening_quantity,
+            value: opening_value,
+        },
+        traded: Amount { quantity, value },
+    }
 }
 
 // All that a book tells: its entries, and the cells of the accounts and contracts.
-pub fn told_by<B: Book>(heap: Global, book: &B) -> Result<Vec<i64>, AllocError> {
-    let mut told = Vec::new(heap);
-    for number in 0..4 {
-        if let Some(entry) = book.entry(number) {
-            told.push(i64::from(entry.trade.account))?;
-            told.push(i64::from(entry.trade.contract))?;
-            told.push(i64::from(entry.trade.quantity))?;
-            told.push(i64::from(entry.trade.price))?;
-            told.push(i64::from(entry.stands))?;
-        }
-    }
+#[derive(PartialEq, Drop)]
+pub struct Told {
+    pub count: u16,
+    pub entries: Vec<Option<Entry>>,
+    pub cells: Vec<Result<Cell, Refusal>>,
+}
+
+pub fn told_by<B: Book>(heap: Global, book: &B) -> Result<Told, AllocError> {
+    let entries = (0..4).map(|number| book.entry(number)).collect(heap)?;
+    let mut cells = Vec::new(heap);
     for account in [11, 12, 13, 14] {
         for contract in [7, 8, 9, 10, 11] {
-            if let Ok((a, b, c, d)) = cell_of(book, account, contract) {
-                told.extend_from_slice(&[a, b, c, d])?;
-            }
+            cells.push(book.cell(account, contract))?;
         }
     }
-    told.push(i64::from(book.entries()))?;
-    Ok(told)
+    Ok(Told {
+        count: book.entries(),
+        entries,
+        cells,
+    })
 }

@@ -1,8 +1,8 @@
 -- Which answer comes to a call, and what the book is after it.
-use Rattle.std.specs.Prelude.{◌≡◌, ℕ, ◌+◌, ◌-◌, Bool, false, cond, not, ◌&&◌, ◌||◌, List, [], ◌∷◌, ◌++◌, length, pos, ◌+ℤ◌, Ok, Err, Result, ◌==◌, nat_le, nat_lt, slice_index_or, slice_set, unsigned_abs}
+use Rattle.std.specs.Prelude.{◌≡◌, ℕ, ◌+◌, ◌-◌, Bool, false, cond, not, ◌&&◌, ◌||◌, List, [], ◌∷◌, ◌++◌, length, ℤ, pos, Some, None, Ok, Err, Option, Result, ◌==◌, nat_le, nat_lt, slice_index_or, slice_set, unsigned_abs}
 use Rattle.terms.specs.Ranges.{holds_in}
 use Rattle.terms.specs.declared.bounds.Bounds.{Bounds}
-use Rattle.terms.specs.declared.bounds.Bounds.TheVariants.{Price, Position, TradedValue, Account, Contract, Entry, ConcentrationLimit}
+use Rattle.terms.specs.declared.bounds.Bounds.TheVariants.{Price, Position, Account, Contract, Entry, ConcentrationLimit}
 use Rattle.terms.specs.declared.refusal.Refusal.{Refusal}
 use Rattle.terms.specs.declared.refusal.Refusal.TheVariants.{OutOfRange, NotInBook, RegistrationOver, JournalFull, NoStandingEntry, OwnAccount, CellOutOfRange, OverLimit}
 use Rattle.books.specs.declared.entry.Call.{Call}
@@ -10,9 +10,13 @@ use Rattle.books.specs.declared.entry.Call.TheVariants.{Enter, Cancel, Transfer,
 use Rattle.books.specs.declared.entry.Cell.{Cell}
 use Rattle.books.specs.declared.entry.Entry as entries
 use Rattle.books.specs.declared.entry.Listing.{Listing}
-use Rattle.books.specs.Journal.{blank, entered, cancelled, moved}
-use Rattle.books.specs.Limits.{any_exceeds, limited}
-use Rattle.books.specs.State.{member, agents, Layer, State, Holding, is_account, is_listing, listing_place, cell_of}
+use Rattle.books.specs.declared.entry.Trade.{Trade}
+use Rattle.books.specs.declared.entry.Scope.TheVariants.{Member, Agents}
+use Rattle.books.specs.declared.entry.Whose.{Whose}
+use Rattle.books.specs.Cells.{trades_within}
+use Rattle.books.specs.Journal.{blank, room, entered, cancelled, moved}
+use Rattle.books.specs.Limits.{held, any_exceeds, limited}
+use Rattle.books.specs.State.{Layer, State, Holding, is_account, is_listing, listing_place, cell_of}
 
 -- ---- after a call
 abbrev pub with_journal : State → List entries.Entry → State
@@ -30,8 +34,8 @@ abbrev pub taken : State → Call → State
 taken s (Enter t) = with_journal s (s.journal ++ entered t ∷ [])
 taken s (Cancel k) = with_journal s (slice_set s.journal (k - 1) (cancelled (entry_at s k)))
 taken s (Transfer k a) = with_journal s (slice_set s.journal (k - 1) (moved a (entry_at s k)))
-taken s (LimitMember c most) = with_layers s (limited member (listing_place c s.listings) most s.layers)
-taken s (LimitAgents c most) = with_layers s (limited agents (listing_place c s.listings) most s.layers)
+taken s (LimitMember c most) = with_layers s (limited Member (listing_place c s.listings) most s.layers)
+taken s (LimitAgents c most) = with_layers s (limited Agents (listing_place c s.listings) most s.layers)
 
 -- a refused call leaves the book as it was
 abbrev pub after : State → Call → Result ℕ Refusal → State
@@ -51,13 +55,13 @@ changed s (Transfer k a) = record { account = (entry_at s k).trade.account; cont
 changed s (LimitMember c most) = []
 changed s (LimitAgents c most) = []
 
--- a cell within its range
-abbrev pub fits : Cell → Bool
-fits x = holds_in Position (x.opening.quantity +ℤ x.traded.quantity) && holds_in TradedValue x.traded.value
+-- a cell out of its range
+abbrev pub is_unfit : Cell → Bool
+is_unfit x = not (trades_within x.opening x.traded)
 
 abbrev pub any_unfit : State → List Place → Bool
 any_unfit s [] = false
-any_unfit s (p ∷ ps) = not (fits (cell_of s p.account p.contract)) || any_unfit s ps
+any_unfit s (p ∷ ps) = is_unfit (cell_of s p.account p.contract) || any_unfit s ps
 
 abbrev pub any_over : State → State → List Place → Bool
 any_over s s' [] = false
@@ -67,8 +71,15 @@ abbrev pub within : Bounds → ℕ → Bool
 within b n = holds_in b (pos n)
 
 -- ---- the conditions, by refusal
+-- a quantity that can be traded is not 0
+abbrev pub is_quantity : ℤ → Bool
+is_quantity q = not (unsigned_abs q == 0) && holds_in Position q
+
+abbrev pub trade_within : Trade → Bool
+trade_within t = within Account t.account && (within Contract t.contract && (is_quantity t.quantity && holds_in Price t.price))
+
 abbrev pub out_of_range : Call → Bool
-out_of_range (Enter t) = not ((within Account t.account && within Contract t.contract) && ((not (unsigned_abs t.quantity == 0) && holds_in Position t.quantity) && holds_in Price t.price))
+out_of_range (Enter t) = not (trade_within t)
 out_of_range (Cancel k) = not (within Entry k)
 out_of_range (Transfer k a) = not (within Entry k && within Account a)
 out_of_range (LimitMember c most) = not (within Contract c && within ConcentrationLimit most)
@@ -94,7 +105,7 @@ registration_over s (LimitMember c most) = false
 registration_over s (LimitAgents c most) = false
 
 abbrev pub journal_full : State → Call → Bool
-journal_full s (Enter t) = nat_le 4096 (length s.journal)
+journal_full s (Enter t) = nat_le room (length s.journal)
 journal_full s (Cancel k) = false
 journal_full s (Transfer k a) = false
 journal_full s (LimitMember c most) = false
@@ -139,6 +150,14 @@ answer s call =
 -- what a reader of a cell is answered
 abbrev pub shown : Holding → ℕ → ℕ → Result Cell Refusal
 shown h a c = cond (is_account a h.accounts && is_listing c h.listings) (Ok (h.cell a c)) (Err NotInBook)
+
+-- the entry of a number, if there is one
+abbrev pub entry_shown : State → ℕ → Option entries.Entry
+entry_shown s k = cond (nat_lt 0 k && nat_le k (length s.journal)) (Some (entry_at s k)) None
+
+-- what a reader of a sum is answered
+abbrev pub held_shown : State → Whose → ℕ → Result ℤ Refusal
+held_shown s w c = cond (is_listing c s.listings) (Ok (held s w c)) (Err NotInBook)
 
 -- ---- calls one after another
 -- the answers that come

@@ -5,6 +5,10 @@ use Rattle.terms.specs.declared.amounts.Amount.{Amount}
 use Rattle.books.specs.declared.entry.Entry.{Entry}
 use Rattle.books.specs.declared.entry.Trade.{Trade}
 
+-- how many entries a journal takes
+abbrev pub room : ℕ
+room = 4096
+
 abbrev pub blank : Entry
 blank = record { trade = record { account = 0; contract = 0; quantity = pos 0; price = pos 0 }; stands = false }
 

@@ -1,28 +1,33 @@
 -- What the layers of concentration limits refuse.
 use Rattle.std.specs.Prelude.{ℕ, Bool, true, false, cond, ◌&&◌, ◌||◌, List, [], ◌∷◌, ℤ, pos, ◌+ℤ◌, Some, None, Option, ◌==◌, nat_lt, slice_index_or, slice_set, unsigned_abs}
 use Rattle.books.specs.declared.entry.Account.{Account}
-use Rattle.books.specs.State.{State, Scope, member, agents, Layer, listing_place, cell_of}
+use Rattle.books.specs.declared.entry.Scope.{Scope}
+use Rattle.books.specs.declared.entry.Scope.TheVariants.{Member, Agents}
+use Rattle.books.specs.declared.entry.Whose.{Whose}
+use Rattle.books.specs.declared.entry.Whose.TheVariants.{Everyone, Agent}
+use Rattle.books.specs.State.{State, Layer, listing_place, agent_of, cell_of}
 
 -- the net position of account a in contract c
 abbrev pub net : State → ℕ → ℕ → ℤ
 net s a c = (cell_of s a c).opening.quantity +ℤ (cell_of s a c).traded.quantity
 
-abbrev pub agent_of : ℕ → List Account → ℕ
-agent_of a [] = 0
-agent_of a (x ∷ xs) = cond (x.number == a) x.agent (agent_of a xs)
+-- is the account one of the sum?
+abbrev pub is_of : Whose → Account → Bool
+is_of Everyone x = true
+is_of (Agent g) x = x.agent == g
 
--- is the account summed up with those of agent g?
-abbrev pub within : Scope → ℕ → Account → Bool
-within member g x = true
-within agents g x = x.agent == g
+-- the sum of the net positions in contract c
+abbrev pub held_by : Whose → (ℕ → ℤ) → List Account → ℤ
+held_by w n [] = pos 0
+held_by w n (x ∷ xs) = cond (is_of w x) (n x.number) (pos 0) +ℤ held_by w n xs
 
--- the net positions of the accounts that are summed up with account a
-abbrev pub sum_over : State → Scope → ℕ → ℕ → List Account → ℤ
-sum_over s w g c [] = pos 0
-sum_over s w g c (x ∷ xs) = cond (within w g x) (net s x.number c) (pos 0) +ℤ sum_over s w g c xs
+abbrev pub held : State → Whose → ℕ → ℤ
+held s w c = held_by w (λ a. net s a c) s.accounts
 
-abbrev pub sum_with : State → Scope → ℕ → ℕ → ℤ
-sum_with s w a c = sum_over s w (agent_of a s.accounts) c s.accounts
+-- the sum that account a belongs to
+abbrev pub sum_of : Scope → ℕ → List Account → Whose
+sum_of Member a xs = Everyone
+sum_of Agents a xs = Agent (agent_of a xs)
 
 -- over the limit, and larger than before
 abbrev pub grows : Option ℕ → ℤ → ℤ → Bool
@@ -31,17 +36,17 @@ grows (Some most) x y = nat_lt most (unsigned_abs y) && nat_lt (unsigned_abs x) 
 
 -- from s to s', at account a and contract c
 abbrev pub exceeds : Layer → State → State → ℕ → ℕ → Bool
-exceeds y s s' a c = grows (slice_index_or y.limits (listing_place c s.listings) None) (sum_with s y.scope a c) (sum_with s' y.scope a c)
+exceeds y s s' a c = grows (slice_index_or y.limits (listing_place c s.listings) None) (held s (sum_of y.scope a s.accounts) c) (held s' (sum_of y.scope a s.accounts) c)
 
 abbrev pub any_exceeds : List Layer → State → State → ℕ → ℕ → Bool
 any_exceeds [] s s' a c = false
 any_exceeds (y ∷ ys) s s' a c = exceeds y s s' a c || any_exceeds ys s s' a c
 
 abbrev pub same_scope : Scope → Scope → Bool
-same_scope member member = true
-same_scope member agents = false
-same_scope agents member = false
-same_scope agents agents = true
+same_scope Member Member = true
+same_scope Member Agents = false
+same_scope Agents Member = false
+same_scope Agents Agents = true
 
 -- the topmost layer of the scope has a new limit at a contract's place
 abbrev pub limited : Scope → ℕ → ℕ → List Layer → List Layer

@@ -7,20 +7,14 @@ use crate::entry::Call;
 use std::alloc::{AllocError, Global};
 use terms::Refusal;
 
-// One call, by its kind.
+// One call.
 pub fn ask<B: Book>(book: &mut B, call: Call) -> Result<u16, Refusal>
     ensures answer { result ≡ answer (B.Book.state book.old) call }
     ensures state { B.Book.state book.new ≡ after (B.Book.state book.old) call result }
     ensures follows { Follows (B.Holdings.holding book.new) (B.Book.state book.new) }
     ensures lent { B.Book.lent book.new ≡ B.Book.lent book.old }
 {
-    match call {
-        Call::Enter(trade) => book.enter(trade),
-        Call::Cancel(number) => book.cancel(number),
-        Call::Transfer(number, account) => book.transfer(number, account),
-        Call::LimitMember(contract, limit) => book.limit_member(contract, limit),
-        Call::LimitAgents(contract, limit) => book.limit_agents(contract, limit),
-    }
+    book.take(call)
 }
 
 // Takes each call in turn and keeps the answers. Room for them is made first: without it no call is made.
@@ -38,8 +32,8 @@ pub fn drive<B: Book>(
 {
     let _ = book.entries();
     let mut answers = Vec::with_capacity(heap, calls.len())?;
-    for i in 0..calls.len() {
-        answers.push_reserved(ask(book, calls[i]));
+    for call in calls {
+        answers.push_reserved(book.take(*call));
     }
     Ok(answers)
 }

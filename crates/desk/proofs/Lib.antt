@@ -1,3 +1,1 @@
-mod Joining
-mod Listed
 mod Pairs

@@ -3,10 +3,10 @@ use Rattle.std.specs.Prelude.{ℕ, Bool, cond, ◌&&◌, List, Some, None, Optio
 use Rattle.std.specs.Option.{option_to_list}
 use Rattle.std.specs.List.{flat_map}
 use Rattle.terms.specs.declared.amounts.Amount.{Amount}
-use Rattle.bookkeeping.specs.State.{State, cell_of}
-use Rattle.bookkeeping.specs.declared.entry.Account.{Account}
-use Rattle.bookkeeping.specs.declared.entry.Cell.{Cell}
-use Rattle.bookkeeping.specs.declared.entry.Listing.{Listing}
+use Rattle.books.specs.State.{State, cell_of}
+use Rattle.books.specs.declared.entry.Account.{Account}
+use Rattle.books.specs.declared.entry.Cell.{Cell}
+use Rattle.books.specs.declared.entry.Listing.{Listing}
 use Rattle.desk.specs.declared.row.Row.{Row}
 
 abbrev pub is_zero : Amount → Bool

@@ -4,8 +4,8 @@ use Rattle.std.specs.List.{zip, flat_map}
 use Rattle.std.specs.Fmt.{signed_decimal}
 use Rattle.terms.specs.Refusals.{number_of}
 use Rattle.terms.specs.declared.refusal.Refusal.{Refusal}
-use Rattle.bookkeeping.specs.declared.entry.Call.{Call}
-use Rattle.bookkeeping.specs.declared.entry.Call.TheVariants.{Enter, Cancel, Transfer, LimitMember, LimitAgents}
+use Rattle.books.specs.declared.entry.Call.{Call}
+use Rattle.books.specs.declared.entry.Call.TheVariants.{Enter, Cancel, Transfer, LimitMember, LimitAgents}
 use Rattle.desk.specs.declared.row.Row.{Row}
 
 -- the call's name, and its numbers in their order

@@ -1,12 +1,11 @@
 ghost use Rattle.std.specs.Prelude.{◌≡◌, true, ◌++◌, IfOk, OnOk};
-ghost use Rattle.std.specs.Option.{option_to_list};
-ghost use Rattle.bookkeeping.specs.State.{Follows, is_account, is_listing, cell_of};
-ghost use Rattle.desk.specs.Rows.{is_zero, row_of, rows_in, rows_of};
+ghost use Rattle.books.specs.State.{Follows, is_account, is_listing, cell_of};
+ghost use Rattle.desk.specs.Rows.{row_of, rows_in, rows_of};
 
 use crate::row::Row;
-use bookkeeping::Book;
+use books::Book;
 use std::alloc::{AllocError, Global};
-use terms::Amount;
+use terms::{Additive, Amount};
 
 // The cells of a book that are not all zero: account by account, and for each contract by contract.
 pub fn rows_of<B: Book>(heap: Global, book: &B) -> Result<Vec<Row>, AllocError>
@@ -27,17 +26,9 @@ fn add_rows<B: Book>(rows: &mut Vec<Row>, book: &B, account: u16) -> Result<(), 
     ensures { OnOk result (rows.new.items ≡ rows.old.items ++ rows_in (B.Book.state book.now) account (B.Book.state book.now).listings) }
 {
     for listing in book.listings() {
-        add_row(rows, row_for(book, account, listing.number))?;
-    }
-    Ok(())
-}
-
-// Adds a row, if there is one.
-fn add_row(rows: &mut Vec<Row>, row: Option<Row>) -> Result<(), AllocError>
-    ensures { OnOk result (rows.new.items ≡ rows.old.items ++ option_to_list row) }
-{
-    if let Some(row) = row {
-        rows.push(row)?;
+        if let Some(row) = row_for(book, account, listing.number) {
+            rows.push(row)?;
+        }
     }
     Ok(())
 }
@@ -49,10 +40,8 @@ fn row_for<B: Book>(book: &B, account: u16, contract: u16) -> Option<Row>
     requires contract { is_listing contract (B.Book.state book.now).listings ≡ true }
     ensures { result ≡ row_of account contract (cell_of (B.Book.state book.now) account contract) }
 {
-    let Ok(cell) = book.cell(account, contract) else {
-        return None;
-    };
-    if is_zero(cell.opening) && is_zero(cell.traded) {
+    let cell = book.cell(account, contract).ok()?;
+    if cell.opening == Amount::zero() && cell.traded == Amount::zero() {
         return None;
     }
     Some(Row {
@@ -60,10 +49,4 @@ fn row_for<B: Book>(book: &B, account: u16, contract: u16) -> Option<Row>
         contract,
         cell,
     })
-}
-
-fn is_zero(amount: Amount) -> bool
-    ensures { result ≡ is_zero amount }
-{
-    amount.quantity == 0 && amount.value == 0
 }

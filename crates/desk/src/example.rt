@@ -1,10 +1,9 @@
-use bookkeeping::{Account, Call, Trade};
+use books::{Account, Call, Trade};
 use calendar::{Load, Maturity};
 use contracts::{ContractTable, Instrument, Kind, Terms};
 use days::Day;
-use limits::LimitTable;
 use opening::{Limit, Opened, Opening};
-use std::alloc::{AllocError, Global};
+use std::alloc::Global;
 use terms::{Amount, Failure, Refusal};
 
 // The book of 16 April 2026: forwards on May and on April, which is registered no more, and futures on the third quarter.
@@ -58,29 +57,13 @@ fn listed(
     })
 }
 
+// The trials have one as well: a program and tests share no crate for examples.
 fn held(account: u16, contract: u16, quantity: i64, value: i64) -> Opened {
     Opened {
         account,
         contract,
         amount: Amount { quantity, value },
     }
-}
-
-// The limits of an opening, by the places of their contracts: on all accounts, and on each agent's.
-pub(crate) fn limit_tables(
-    heap: Global,
-    opening: &Opening,
-) -> Result<(LimitTable, LimitTable), AllocError> {
-    let count = opening.listings.len();
-    let mut members = LimitTable::none(heap, count)?;
-    let mut agents = LimitTable::none(heap, count)?;
-    for limit in opening.limits.iter() {
-        if let Some(place) = opening.place_of_listing(limit.contract) {
-            members.set(place, limit.member);
-            agents.set(place, limit.agents);
-        }
-    }
-    Ok((members, agents))
 }
 
 // Each reason for which a call is refused, but a full journal, and what is taken between.
@@ -114,6 +97,7 @@ pub(crate) fn example_calls() -> [Call; 21] {
     ]
 }
 
+// The trials have one as well.
 fn enter(account: u16, contract: u16, quantity: i32, price: i32) -> Call {
     Call::Enter(Trade {
         account,

@@ -2,12 +2,12 @@ ghost use Rattle.std.specs.Prelude.{Some};
 ghost use Rattle.desk.specs.Texts.{call_text, answer_text, asked_text, row_text};
 
 use crate::row::Row;
-use bookkeeping::Call;
+use books::{Call, Trade};
 use std::fmt;
 use terms::Refusal;
 
 // What a book is asked.
-#[derive(Clone, Copy)]
+#[derive(Clone, Copy, PartialEq, Eq, Debug)]
 pub struct Question(pub Call);
 
 impl fmt::Display for Question {
@@ -15,13 +15,14 @@ impl fmt::Display for Question {
 
     fn fmt<W: fmt::Write>(&self, f: &mut fmt::Formatter<W>) -> fmt::Result {
         match self.0 {
-            Call::Enter(trade) => {
-                let account = trade.account;
-                let contract = trade.contract;
-                let quantity = trade.quantity;
-                let price = trade.price;
-                write!(f, "enter {account} {contract} {quantity} {price}")
-            }
+            Call::Enter(
+                Trade {
+                    account,
+                    contract,
+                    quantity,
+                    price,
+                },
+            ) => write!(f, "enter {account} {contract} {quantity} {price}"),
             Call::Cancel(number) => write!(f, "cancel {number}"),
             Call::Transfer(number, account) => write!(f, "transfer {number} {account}"),
             Call::LimitMember(contract, most) => write!(f, "limit member {contract} {most}"),
@@ -31,7 +32,7 @@ impl fmt::Display for Question {
 }
 
 // What a call is answered: the number of its entry, or of the refusal.
-#[derive(Clone, Copy)]
+#[derive(Clone, Copy, PartialEq, Eq, Debug)]
 pub struct Answer(pub Result<u16, Refusal>);
 
 impl fmt::Display for Answer {
@@ -46,7 +47,7 @@ impl fmt::Display for Answer {
 }
 
 // A call and its answer.
-#[derive(Clone, Copy)]
+#[derive(Clone, Copy, PartialEq, Eq, Debug)]
 pub struct Asked {
     pub call: Call,
     pub answer: Result<u16, Refusal>,

@@ -9,9 +9,10 @@ mod report;
 mod row;
 mod session;
 
-use bookkeeping::{Entry, Trade};
-use example::{example_calls, example_opening, limit_tables};
+use books::Entry;
+use example::{example_calls, example_opening};
 use ledger::Ground;
+use limits::Limits;
 use report::report_of;
 use session::run;
 use std::alloc::Global;
@@ -26,23 +27,14 @@ fn main(rt: HostRuntime) -> io::Result<()> {
     }
 }
 
-const BLANK: Entry = Entry {
-    trade: Trade {
-        account: 0,
-        contract: 0,
-        quantity: 0,
-        price: 0,
-    },
-    stands: false,
-};
-
 fn example_report(heap: Global) -> Result<String, Failure> {
     let opening = example_opening(heap)?;
-    let (members, agents) = limit_tables(heap, &opening)?;
+    let limits = Limits::of(heap, &opening)?;
     let ground = Ground::of(heap, &opening)?;
     let calls = example_calls();
-    let mut journal = [BLANK; 4096];
-    let outcome = run(heap, ground, &mut journal, members, agents, &calls)?;
+    // An array: the journal is lent with room for all entries, so that no call takes memory.
+    let mut journal = [Entry::BLANK; 4096];
+    let outcome = run(heap, ground, &mut journal, limits, &calls)?;
     let text = report_of(heap, &calls, &outcome.answers, &outcome.rows)?;
     Ok(text)
 }

@@ -1,7 +1,7 @@
-use bookkeeping::Cell;
+use books::Cell;
 
 // A cell with its account and contract.
-#[derive(Clone, Copy)]
+#[derive(Clone, Copy, PartialEq, Eq, Debug)]
 pub struct Row {
     pub account: u16,
     pub contract: u16,

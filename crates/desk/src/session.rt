@@ -1,18 +1,19 @@
 ghost use Rattle.std.specs.Prelude.{◌≡◌, [], length, take, IfOk};
-ghost use Rattle.bookkeeping.specs.Answers.{answers, booked_all};
+ghost use Rattle.books.specs.Answers.{answers, booked_all};
 ghost use Rattle.ledger.specs.Meaning.{state_of};
 ghost use Rattle.desk.specs.Rows.{rows_of};
-ghost use Rattle.desk.specs.Sessions.{piled, opened, ended};
+ghost use Rattle.limits.specs.Layers.{under_limits};
+ghost use Rattle.desk.specs.Sessions.{opened, ended};
 
 use crate::cells::rows_of;
 use crate::row::Row;
-use bookkeeping::{Book, Call, Entry};
+use books::{Book, Call, Entry};
 use ledger::{Ground, TableBook};
-use limits::{LimitTable, drive_under_limits};
+use limits::{Limits, drive_under_limits};
 use std::alloc::{AllocError, Global};
 use terms::Refusal;
 
-// What a list of calls comes to: the answers, and the cells that are not all zero.
+// What a list of calls comes to: an answer to each, and the cells that are not all zero, each by itself.
 #[derive(Drop)]
 pub struct Outcome {
     pub answers: Vec<Result<u16, Refusal>>,
@@ -25,16 +26,15 @@ pub fn run(
     heap: Global,
     ground: Ground,
     journal: &mut [Entry; 4096],
-    members: LimitTable,
-    agents: LimitTable,
+    limits: Limits,
     calls: &[Call],
 ) -> Result<Outcome, AllocError>
-    ensures answers { IfOk result (λ x. x.answers.items ≡ answers (opened ground members agents) calls.now) }
-    ensures rows { IfOk result (λ x. x.rows.items ≡ rows_of (ended (opened ground members agents) calls.now)) }
+    ensures answers { IfOk result (λ x. x.answers.items ≡ answers (opened ground limits) calls.now) }
+    ensures rows { IfOk result (λ x. x.rows.items ≡ rows_of (ended (opened ground limits) calls.now)) }
     ensures journal { IfOk result (λ x. take (length (booked_all [] calls.now x.answers.items)) journal.new ≡ booked_all [] calls.now x.answers.items) }
 {
     let mut book = TableBook::open(ground, journal);
-    let answers = drive_table(heap, &mut book, members, agents, calls);
+    let answers = drive_under_limits(heap, &mut book, limits, calls);
     let rows = rows_of(heap, &book);
     // The book ends here, so that whoever lent the journal knows what it holds.
     let TableBook {
@@ -48,20 +48,4 @@ pub fn run(
         answers: answers?,
         rows: rows?,
     })
-}
-
-// Drives a table book under both limits. It keeps the journal that is lent to it.
-fn drive_table<'a>(
-    heap: Global,
-    book: &mut TableBook<'a>,
-    members: LimitTable,
-    agents: LimitTable,
-    calls: &[Call],
-) -> Result<Vec<Result<u16, Refusal>>, AllocError>
-    ensures answers { IfOk result (λ v. v.items ≡ answers (piled members agents (state_of book.old)) calls.now) }
-    ensures rows { IfOk result (λ v. rows_of (state_of book.new) ≡ rows_of (ended (piled members agents (state_of book.old)) calls.now)) }
-    ensures journal { IfOk result (λ v. (state_of book.new).journal ≡ booked_all (state_of book.old).journal calls.now v.items) }
-    ensures lender { book.new.journal.ghost_name ≡ book.old.journal.ghost_name }
-{
-    drive_under_limits(heap, book, members, agents, calls)
 }

@@ -1,20 +1,20 @@
 -- What a call is answered, from the cells.
 use Rattle.std.proofs.Common.{◌≡◌, ℕ, ◌-◌, Bool, true, false, cond, not, ◌&&◌, ◌||◌, eqb, List, [], ◌∷◌, get_or, is_ok, Ok, Err, vec_items, sym, refl, ap, ◌∙◌, ap₂, arith}
 use Rattle.std.proofs.lemmas.Int.{ints}
-use Rattle.std.proofs.lemmas.Bool.{and_parts, and_from, not-false, eq-eqb, ne_eqb, eqb-false}
+use Rattle.std.proofs.lemmas.Bool.{cond-true, cond-false, and_parts, and_from, not-false, eq-eqb, ne_eqb, eqb-false}
 use Rattle.terms.specs.Amounts.{no_amount, amount_plus, amount_minus}
 use Rattle.terms.specs.declared.amounts.Amount.{Amount}
 use Rattle.terms.specs.declared.refusal.Refusal.{Refusal}
 use Rattle.terms.specs.declared.refusal.Refusal.TheVariants.{OutOfRange, NotInBook, RegistrationOver, JournalFull, NoStandingEntry, OwnAccount, CellOutOfRange, OverLimit}
-use Rattle.bookkeeping.proofs.Shifts.{amount_ext, after_call}
-use Rattle.bookkeeping.specs.Answers.{answer, taken, changed, Place, entry_of, out_of_range, not_in_book, registration_over, journal_full, no_standing_entry, own_account, is_unfit, any_unfit, any_over}
-use Rattle.bookkeeping.specs.Cells.{trades_within}
-use Rattle.bookkeeping.specs.Journal.{blank, amount_of, standing}
-use Rattle.bookkeeping.specs.Shifts.{shift_of, entry_for, shifts}
-use Rattle.bookkeeping.specs.State.{State, cell_of, is_account, is_listing}
-use Rattle.bookkeeping.specs.declared.entry.Call.{Call}
-use Rattle.bookkeeping.specs.declared.entry.Call.TheVariants.{Enter, Cancel, Transfer, LimitMember, LimitAgents}
-use Rattle.bookkeeping.specs.declared.entry.Entry.{Entry}
+use Rattle.books.proofs.Shifts.{amount_ext, after_call}
+use Rattle.books.specs.Answers.{answer, taken, changed, Place, entry_of, out_of_range, not_in_book, registration_over, journal_full, no_standing_entry, own_account, is_unfit, any_unfit, any_over}
+use Rattle.books.specs.Cells.{trades_within}
+use Rattle.books.specs.Journal.{blank, amount_of, standing}
+use Rattle.books.specs.Shifts.{shift_of, entry_for, shifts}
+use Rattle.books.specs.State.{State, cell_of, is_account, is_listing}
+use Rattle.books.specs.declared.entry.Call.{Call}
+use Rattle.books.specs.declared.entry.Call.TheVariants.{Enter, Cancel, Transfer, LimitMember, LimitAgents}
+use Rattle.books.specs.declared.entry.Entry.{Entry}
 use Rattle.ledger.specs.Asked.{missing, own}
 use Rattle.ledger.specs.Meaning.{state_by}
 use Rattle.ledger.specs.Views.{opening, traded, is_in, bears_at, bears}
@@ -113,12 +113,6 @@ module _ (t : Tables) (es : List Entry) (tied : (a c : ℕ) → is_in t a c ≡ 
   none_over_limit call = none_over (taken (state_by t es) call) (changed (state_by t es) call)
 
 -- ---- one condition after another
-past : {X : Type 0} (b : Bool) (x y : X) → b ≡ false → cond b x y ≡ y
-past b x y h = ap (λ (c : Bool). cond c x y) h
-
-hit : {X : Type 0} (b : Bool) (x y : X) → b ≡ true → cond b x y ≡ x
-hit b x y h = ap (λ (c : Bool). cond c x y) h
-
 -- no condition below the range of cells holds
 pub record Sound (s : State) (call : Call) : Type 0 where
   pub range : out_of_range call ≡ false
@@ -130,13 +124,13 @@ pub record Sound (s : State) (call : Call) : Type 0 where
 
 pub answer_unfit : (s : State) (call : Call) → Sound s call → any_unfit (taken s call) (changed s call) ≡ true → answer s call ≡ Err CellOutOfRange
 answer_unfit s call f u =
-    past (out_of_range call) _ _ f.range ∙ past (not_in_book s call) _ _ f.book ∙ past (registration_over s call) _ _ f.registration ∙ past (journal_full s call) _ _ f.room
-    ∙ past (no_standing_entry s call) _ _ f.stands ∙ past (own_account s call) _ _ f.other ∙ hit (any_unfit (taken s call) (changed s call)) _ _ u
+    cond-false (out_of_range call) _ _ f.range ∙ cond-false (not_in_book s call) _ _ f.book ∙ cond-false (registration_over s call) _ _ f.registration ∙ cond-false (journal_full s call) _ _ f.room
+    ∙ cond-false (no_standing_entry s call) _ _ f.stands ∙ cond-false (own_account s call) _ _ f.other ∙ cond-true (any_unfit (taken s call) (changed s call)) _ _ u
 
 pub answer_fit : (s : State) (call : Call) → Sound s call → any_unfit (taken s call) (changed s call) ≡ false → any_over s (taken s call) (changed s call) ≡ false → answer s call ≡ Ok (entry_of s call)
 answer_fit s call f u v =
-    past (out_of_range call) _ _ f.range ∙ past (not_in_book s call) _ _ f.book ∙ past (registration_over s call) _ _ f.registration ∙ past (journal_full s call) _ _ f.room
-    ∙ past (no_standing_entry s call) _ _ f.stands ∙ past (own_account s call) _ _ f.other ∙ past (any_unfit (taken s call) (changed s call)) _ _ u ∙ past (any_over s (taken s call) (changed s call)) _ _ v
+    cond-false (out_of_range call) _ _ f.range ∙ cond-false (not_in_book s call) _ _ f.book ∙ cond-false (registration_over s call) _ _ f.registration ∙ cond-false (journal_full s call) _ _ f.room
+    ∙ cond-false (no_standing_entry s call) _ _ f.stands ∙ cond-false (own_account s call) _ _ f.other ∙ cond-false (any_unfit (taken s call) (changed s call)) _ _ u ∙ cond-false (any_over s (taken s call) (changed s call)) _ _ v
 
 -- ---- what a call that is taken met
 pub allowed : (s : State) (call : Call) → is_ok (answer s call) ≡ true → Sound s call × (any_unfit (taken s call) (changed s call) ≡ false)

@@ -1,4 +1,3 @@
-pub mod Places
 pub mod Ranges
 pub mod AtPlace
 pub mod Writes

@@ -1,17 +1,14 @@
 -- How large the numbers of a cell are.
-use Rattle.std.proofs.Common.{◌≡◌, ◌+◌, ◌≤◌, true, [], ◌∷◌, ℤ, ◌+ℤ◌, nat_abs, arith}
+use Rattle.std.proofs.Common.{◌≡◌, ◌≤◌, true, ℤ, ◌+ℤ◌, nat_abs, arith}
 use borrow.Author.Differences.{abs_is}
 use Rattle.std.proofs.lemmas.Int.{ints}
 use Rattle.std.proofs.lemmas.Bool.{and_parts}
-use Rattle.terms.specs.Amounts.{no_amount, amount_plus, amount_size}
-use Rattle.terms.specs.Laws.{added, sizes}
+use Rattle.terms.specs.Amounts.{amount_size}
 use Rattle.terms.specs.Ranges.{holds_in}
-use Rattle.terms.specs.declared.amounts.Amount.{Amount}
 use Rattle.terms.specs.declared.bounds.Bounds.TheVariants.{Position, TradedValue}
-use Rattle.bookkeeping.specs.Cells.{opens_within, value_within, trades_within}
-use Rattle.bookkeeping.specs.State.{cell_within}
-use Rattle.bookkeeping.specs.declared.entry.Cell.{Cell}
-use Rattle.bookkeeping.proofs.Shifts.{amount_ext}
+use Rattle.books.specs.Cells.{opens_within, value_within, trades_within}
+use Rattle.books.specs.State.{cell_within}
+use Rattle.books.specs.declared.entry.Cell.{Cell}
 use Rattle.contracts.specs.declared.kind.Kind.{Kind}
 
 small_position : (z : ℤ) → holds_in Position z ≡ true → nat_abs z ≤ 10000
@@ -34,13 +31,3 @@ cell_sizes k x h =
     let v = small_value x.traded.value t.1 in
     let q : nat_abs x.traded.quantity ≤ 20000 = omega (arith, ints, abs_is x.opening.quantity, abs_is x.traded.quantity, abs_is (x.opening.quantity +ℤ x.traded.quantity)) in
     record { opening = o; net = n; traded = omega arith }
-
--- the sum of two
-pub two : (x y : Amount) → added no_amount amount_plus (x ∷ y ∷ []) ≡ amount_plus x y
-two x y = amount_ext _ _ (omega (arith, ints)) (omega (arith, ints))
-
-pub two_sizes : (x y : Amount) → sizes amount_size (x ∷ y ∷ []) ≡ amount_size x + amount_size y
-two_sizes x y = omega arith
-
-pub plus_size : (x y : Amount) → amount_size (amount_plus x y) ≤ amount_size x + amount_size y
-plus_size x y = omega (arith, ints, abs_is x.quantity, abs_is y.quantity, abs_is x.value, abs_is y.value, abs_is (x.quantity +ℤ y.quantity), abs_is (x.value +ℤ y.value))

@@ -4,13 +4,12 @@ use Rattle.std.proofs.lemmas.Int.{ints}
 use Rattle.std.proofs.lemmas.Bool.{and_from, eq-eqb, eqb-true}
 use Rattle.terms.specs.Amounts.{no_amount, amount_plus, amount_minus}
 use Rattle.terms.specs.declared.amounts.Amount.{Amount}
-use Rattle.bookkeeping.proofs.Shifts.{amount_ext}
-use Rattle.bookkeeping.specs.Cells.{trades_within}
-use Rattle.bookkeeping.specs.Shifts.{is_at, shifts}
-use Rattle.bookkeeping.specs.declared.entry.Account.{Account}
-use Rattle.bookkeeping.specs.declared.entry.Listing.{Listing}
-use Rattle.bookkeeping.specs.declared.shift.Shift.{Shift}
-use Rattle.ledger.specs.Places.{place_of, is_listed, amount_at, goes, Shifted}
+use Rattle.books.proofs.Shifts.{amount_ext}
+use Rattle.books.specs.Cells.{trades_within}
+use Rattle.books.specs.Shifts.{Movement, is_at, shifts}
+use Rattle.books.specs.declared.entry.Account.{Account}
+use Rattle.books.specs.declared.entry.Listing.{Listing}
+use Rattle.ledger.specs.Places.{place_of, is_listed, amount_at, openings, trades, goes, Shifted}
 use Rattle.ledger.specs.Views.{traded, is_in, bears_at, bears_by, Kept}
 use Rattle.ledger.specs.declared.tables.Tables.{Tables}
 use Rattle.ledger.proofs.Writes.{either}
@@ -35,15 +34,12 @@ one_more xs cs ts b d by k l a c h =
         out true false u v = refl
         out false q u v = refl
 
-pub none_more : (xs : List Account) (cs : List Listing) (ts : List Amount) (d : ℕ) (by : Amount) → Shifted xs cs (goes None d by) ts ts
-none_more xs cs ts d by a c h = sym (ap (λ (t : Bool). amount_plus (amount_at xs cs ts a c) (cond t by no_amount)) (off (eqb d c)) ∙ nothing_more _)
-  where
-    off : (p : Bool) → p && false ≡ false
-    off true = refl
-    off false = refl
+-- the same, by what each is
+pub shifted_as : (xs : List Account) (cs : List Listing) (ts us : List Amount) (o p : Option ℕ) (c d : ℕ) (x y : Amount) → o ≡ p → c ≡ d → x ≡ y → Shifted xs cs (goes o c x) ts us → Shifted xs cs (goes p d y) ts us
+shifted_as xs cs ts us o p c d x y e f g s a b l = s a b l ∙ ap (amount_plus (amount_at xs cs ts a b)) (ap₂ (λ (q : Option ℕ) k. goes q k x a b) e f ∙ ap (λ (z : Amount). goes p d z a b) g)
 
 -- ---- two cells
-pub both_more : (xs : List Account) (cs : List Listing) (h : Shift) (ts us vs : List Amount) → Shifted xs cs (goes h.from h.contract (amount_minus h.amount)) ts us → Shifted xs cs (goes h.to h.contract h.amount) us vs → Shifted xs cs (shifts h) ts vs
+pub both_more : (xs : List Account) (cs : List Listing) (h : Movement) (ts us vs : List Amount) → Shifted xs cs (goes h.from h.contract (amount_minus h.amount)) ts us → Shifted xs cs (goes h.to h.contract h.amount) us vs → Shifted xs cs (shifts h) ts vs
 both_more xs cs h ts us vs f g a c l = g a c l ∙ ap (λ (x : Amount). amount_plus x (goes h.to h.contract h.amount a c)) (f a c l) ∙ joined (amount_at xs cs ts a c) h.amount (eqb h.contract c) (is_at h.to a) (is_at h.from a)
   where
     joined : (x y : Amount) (p q r : Bool) → amount_plus (amount_plus x (cond (p && r) (amount_minus y) no_amount)) (cond (p && q) y no_amount) ≡ amount_plus x (cond p (amount_plus (cond q y no_amount) (cond r (amount_minus y) no_amount)) no_amount)
@@ -61,17 +57,17 @@ listed_borne t a c by e = there (is_in t a c) _ e
     there true q e = refl
     there false q e = e
 
-pub still_bears : (t u : Tables) (from to : Option ℕ) (c : ℕ) (x y : Amount) → Kept t u → Shifted (vec_items t.accounts) (vec_items t.listings) (goes from c x) (vec_items t.traded) (vec_items u.traded) → ((a : ℕ) → is_at to a ≡ true → is_at from a ≡ false) → bears_by t to c y ≡ true → bears_by u to c y ≡ true
+pub still_bears : (t u : Tables) (from to : Option ℕ) (c : ℕ) (x y : Amount) → Kept t u → Shifted (vec_items t.accounts) (vec_items t.listings) (goes from c x) (trades (vec_items t.cells)) (trades (vec_items u.cells)) → ((a : ℕ) → is_at to a ≡ true → is_at from a ≡ false) → bears_by t to c y ≡ true → bears_by u to c y ≡ true
 still_bears t u from None c x y k s ne e = refl
 still_bears t u from (Some b) c x y k s ne e =
     let xs = vec_items t.accounts in
     let cs = vec_items t.listings in
     let listed = listed_borne t b c y e in
     let out : is_at from b ≡ false = ne b (eq-eqb b b refl) in
-    let same : amount_at xs cs (vec_items u.traded) b c ≡ traded t b c = s b c listed ∙ ap₂ (λ (p q : Bool). amount_plus (traded t b c) (cond (p && q) x no_amount)) (eq-eqb c c refl) out ∙ nothing_more _ in
+    let same : amount_at xs cs (trades (vec_items u.cells)) b c ≡ traded t b c = s b c listed ∙ ap₂ (λ (p q : Bool). amount_plus (traded t b c) (cond (p && q) x no_amount)) (eq-eqb c c refl) out ∙ nothing_more _ in
     let accounts = ap vec_items k.accounts in
     let listings = ap vec_items k.listings in
-    let amounts = ap vec_items k.opening in
-    (ap₂ (λ (as' : List Account) (cs' : List Listing). cond (is_listed as' cs' b c) (trades_within (amount_at as' cs' (vec_items u.opening) b c) (amount_plus (amount_at as' cs' (vec_items u.traded) b c) y)) false) accounts listings)
+    let amounts = k.opening in
+    (ap₂ (λ (as' : List Account) (cs' : List Listing). cond (is_listed as' cs' b c) (trades_within (amount_at as' cs' (openings (vec_items u.cells)) b c) (amount_plus (amount_at as' cs' (trades (vec_items u.cells)) b c) y)) false) accounts listings)
     ∙ ap₂ (λ (os : List Amount) (z : Amount). cond (is_listed xs cs b c) (trades_within (amount_at xs cs os b c) (amount_plus z y)) false) amounts same
     ∙ e

@@ -1,35 +1,14 @@
--- The sum of the net positions that are written one after another.
-use Rattle.std.proofs.Common.{◌≡◌, ℕ, zero, suc, ◌+◌, ◌*◌, ◌<◌, ◌≤◌, Bool, true, false, cond, not, ◌||◌, eqb, ◌≢◌, List, [], ◌∷◌, ◌++◌, length, get_or, take, set, ℤ, pos, ◌+ℤ◌, nat_abs, fold, sum_by, sym, refl, ap, ◌∙◌, subst, add-one, arith, below_more}
+-- The sum of the net positions, one account after another.
+use Rattle.std.proofs.Common.{◌≡◌, ℕ, zero, suc, ◌+◌, ◌*◌, ◌<◌, ◌≤◌, Bool, true, false, cond, not, ◌||◌, eqb, List, [], ◌∷◌, ◌++◌, length, get_or, take, ℤ, pos, ◌+ℤ◌, nat_abs, fold, sum_by, sym, refl, ap, ap₂, ◌∙◌, arith}
 use borrow.Author.Differences.{ints, abs_is}
-use Rattle.std.proofs.lemmas.List.{get_or-set_same, get_or-set_other, length-set, take_more}
-use Rattle.std.proofs.lemmas.List.Sums.{fold_more, sum_by_more, sum_by-cons}
-use Rattle.std.proofs.lemmas.Bool.{and_parts, not-true, eq-eqb, ne_eqb, both_ways}
-use Rattle.bookkeeping.specs.Limits.{is_of, held_by}
-use Rattle.bookkeeping.specs.State.{is_account, account_place, are_apart}
-use Rattle.bookkeeping.specs.declared.entry.Account.{Account}
-use Rattle.bookkeeping.specs.declared.entry.Whose.{Whose}
+use Rattle.std.proofs.lemmas.List.{take_more, length-append}
+use Rattle.std.proofs.lemmas.List.Sums.{fold-append, sum_by-append}
+use Rattle.std.proofs.lemmas.Bool.{or_right, and_parts, not-true, eq-eqb, ne_eqb, both_ways}
+use Rattle.books.specs.Limits.{is_of, held_by}
+use Rattle.books.specs.State.{is_account, account_place, are_apart}
+use Rattle.books.specs.declared.entry.Account.{Account}
+use Rattle.books.specs.declared.entry.Whose.{Whose}
 use Rattle.ledger.specs.Views.{nobody}
-
--- the first i net positions are written
-pub record Written (f : ℕ → ℤ) (xs : List ℤ) (i : ℕ) : Type 0 where
-  pub long : length xs ≡ 32
-  pub each : (k : ℕ) → k < i → get_or xs k (pos 0) ≡ f k
-  pub small : (k : ℕ) → k < i → nat_abs (get_or xs k (pos 0)) ≤ 10000
-
-pub none_written : (f : ℕ → ℤ) (xs : List ℤ) → length xs ≡ 32 → Written f xs 0
-none_written f xs e = record { long = e; each = λ k h. absurd (omega arith); small = λ k h. absurd (omega arith) }
-
-pub one_written : (f : ℕ → ℤ) (xs : List ℤ) (i : ℕ) (z : ℤ) → Written f xs i → i < 32 → z ≡ f i → nat_abs z ≤ 10000 → Written f (set xs i z) (i + 1)
-one_written f xs i z w h e b =
-    let long = w.long in
-    let lt : i < length xs = omega arith in
-    let here : get_or (set xs i z) i (pos 0) ≡ z = get_or-set_same xs i z (pos 0) lt in
-    let other : (k : ℕ) → k < i → get_or (set xs i z) k (pos 0) ≡ get_or xs k (pos 0) = λ k l. (let ne : k ≢ i = λ same. absurd (omega arith) in get_or-set_other xs i k z (pos 0) ne) in
-    record {
-      long = length-set xs i z ∙ long;
-      each = below_more _ _ (λ k l. other k l ∙ w.each k l) (here ∙ e);
-      small = below_more _ _ (λ k l. subst (λ y. nat_abs y ≤ 10000) (sym (other k l)) (w.small k l)) (subst (λ y. nat_abs y ≤ 10000) (sym here) b);
-    }
 
 -- what the account at a place adds
 abbrev pub term_at : Whose → (ℕ → ℤ) → List Account → ℕ → ℤ
@@ -39,45 +18,49 @@ held_push : (w : Whose) (n : ℕ → ℤ) (ys : List Account) (y : Account) → 
 held_push w n [] y = omega (arith, ints)
 held_push w n (x ∷ ys) y = omega (arith, ints, held_push w n ys y)
 
-module _ (w : Whose) (n : ℕ → ℤ) (ys : List Account) (xs : List ℤ) (m : ℕ) (done : Written (term_at w n ys) xs m) where
-  pub summed : (i : ℕ) → i ≤ m → i ≤ length ys → i ≤ 32 → fold ◌+ℤ◌ (pos 0) (take i xs) ≡ held_by w n (take i ys)
-  summed zero h k l = refl
-  summed (suc i) h k l =
-      let long = done.long in
-      let r = summed i (omega arith) (omega arith) (omega arith) in
-      let e = done.each i (omega arith) in
-      let p = fold_more ◌+ℤ◌ (pos 0) xs i (pos 0) (omega arith) in
-      let q = take_more ys i nobody (omega arith) in
-      ap (λ j. fold ◌+ℤ◌ (pos 0) (take j xs)) (sym (add-one i)) ∙ p ∙ ap (λ s. s +ℤ get_or xs i (pos 0)) r ∙ ap (λ y. held_by w n (take i ys) +ℤ y) e
-      ∙ sym (held_push w n (take i ys) (get_or ys i nobody)) ∙ ap (held_by w n) (sym q) ∙ ap (λ j. held_by w n (take j ys)) (add-one i)
+-- one account more
+pub held_more : (w : Whose) (n : ℕ → ℤ) (ys : List Account) (i : ℕ) → i < length ys → held_by w n (take (i + 1) ys) ≡ held_by w n (take i ys) +ℤ term_at w n ys i
+held_more w n ys i h = ap (held_by w n) (take_more ys i nobody h) ∙ held_push w n (take i ys) (get_or ys i nobody)
 
-  pub sized : (i : ℕ) → i ≤ m → i ≤ 32 → sum_by nat_abs (take i xs) ≤ i * 10000
-  sized zero h l = omega arith
-  sized (suc i) h l =
-      let long = done.long in
-      let r = sized i (omega arith) (omega arith) in
-      let s = done.small i (omega arith) in
-      let p = sum_by_more nat_abs xs i (pos 0) (omega arith) in
-      let e = ap (λ k. sum_by nat_abs (take k xs)) (sym (add-one i)) in
-      omega arith
+-- the net positions of the first n accounts, of those that are summed
+pub record Summed (w : Whose) (f : ℕ → ℤ) (ys : List Account) (xs : List ℤ) (n : ℕ) : Type 0 where
+  pub few : length xs ≤ n
+  pub is : fold ◌+ℤ◌ (pos 0) xs ≡ held_by w f (take n ys)
+  pub small : sum_by nat_abs xs ≤ n * 10000
+  pub near : nat_abs (fold ◌+ℤ◌ (pos 0) xs) ≤ n * 10000
 
--- a sum is no larger than its parts
-pub folded_size : (xs : List ℤ) (a : ℤ) → nat_abs (fold ◌+ℤ◌ a xs) ≤ nat_abs a + sum_by nat_abs xs
-folded_size [] a = omega arith
-folded_size (x ∷ xs) a = let r = folded_size xs (a +ℤ x) in let s = plus_size a x in let t = sum_by-cons nat_abs x xs in omega arith
-  where
-    plus_size : (x y : ℤ) → nat_abs (x +ℤ y) ≤ nat_abs x + nat_abs y
-    plus_size x y = omega (arith, ints, abs_is)
+pub one_summed : (w : Whose) (f : ℕ → ℤ) (ys : List Account) (xs : List ℤ) (n : ℕ) (z : ℤ) → Summed w f ys xs n → n < length ys → is_of w (get_or ys n nobody) ≡ true → z ≡ f (get_or ys n nobody).number → nat_abs z ≤ 10000 → Summed w f ys (xs ++ z ∷ []) (n + 1)
+one_summed w f ys xs n z so h on e b =
+    let few = so.few in
+    let small = so.small in
+    let near = so.near in
+    let more = fold-append ◌+ℤ◌ (pos 0) xs (z ∷ []) in
+    let term : z ≡ term_at w f ys n = e ∙ sym (ap (λ (t : Bool). cond t (f (get_or ys n nobody).number) (pos 0)) on) in
+    record {
+      few = omega (arith, length-append xs (z ∷ []));
+      is = more ∙ ap₂ ◌+ℤ◌ so.is term ∙ sym (held_more w f ys n h);
+      small = omega (arith, sum_by-append nat_abs xs (z ∷ []));
+      near = omega (arith, ints, abs_is, more);
+    }
+
+pub none_summed : (w : Whose) (f : ℕ → ℤ) (ys : List Account) (xs : List ℤ) (n : ℕ) → Summed w f ys xs n → n < length ys → is_of w (get_or ys n nobody) ≡ false → Summed w f ys xs (n + 1)
+none_summed w f ys xs n so h off =
+    let few = so.few in
+    let small = so.small in
+    let near = so.near in
+    let term : term_at w f ys n ≡ pos 0 = ap (λ (t : Bool). cond t (f (get_or ys n nobody).number) (pos 0)) off in
+    record {
+      few = omega arith;
+      is = omega (arith, ints, so.is, term, held_more w f ys n h);
+      small = omega arith;
+      near = omega arith;
+    }
 
 -- ---- numbers that differ go by their places
 there_at : (ys : List Account) (i : ℕ) → i < length ys → is_account (get_or ys i nobody).number ys ≡ true
 there_at [] i h = absurd (omega arith)
 there_at (y ∷ ys) zero h = ap (λ (b : Bool). b || is_account y.number ys) (eq-eqb y.number y.number refl)
-there_at (y ∷ ys) (suc i) h = or_right (eqb y.number (get_or ys i nobody).number) _ (there_at ys i (omega arith))
-  where
-    or_right : (p q : Bool) → q ≡ true → p || q ≡ true
-    or_right true q e = refl
-    or_right false q e = e
+there_at (y ∷ ys) (suc i) h = or_right _ _ (there_at ys i (omega arith))
 
 pub at_place : (ys : List Account) (i : ℕ) → are_apart ys ≡ true → i < length ys → (is_account (get_or ys i nobody).number ys ≡ true) × (account_place (get_or ys i nobody).number ys ≡ i)
 at_place [] i a h = absurd (omega arith)

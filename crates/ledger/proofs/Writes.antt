@@ -1,53 +1,41 @@
 -- What a write to one cell leaves.
-use Rattle.std.proofs.Common.{◌≡◌, ℕ, suc, ◌/◌, ◌%◌, ◌<◌, Bool, true, false, cond, ◌&&◌, ◌||◌, eqb, List, [], ◌∷◌, length, set, sym, refl, ap, ◌∙◌, subst, ap₂, inl, inr, arith}
-use Rattle.std.proofs.lemmas.Nat.{div-mul-add, mod-mul-add}
-use Rattle.std.proofs.lemmas.List.{get_or-set_same, get_or-set_other}
-use Rattle.std.proofs.lemmas.Bool.{and_parts, and_from, eqb-true, cases_eq}
-use Rattle.terms.specs.Amounts.{no_amount}
+use Rattle.std.proofs.Common.{◌≡◌, ℕ, ◌<◌, true, ◌&&◌, List, length, get_or, set, vec_items, sym, refl, ap, ◌∙◌, subst, ap₂, inl, inr, arith}
+use Rattle.std.proofs.Math.Seq.{map-set_same}
+use Rattle.std.proofs.lemmas.List.{get_or-set_same, get_or-set_other, map-set, length-map}
+use Rattle.std.proofs.lemmas.Bool.{and_parts, and_from, cases_eq}
+use Rattle.terms.specs.Amounts.{no_amount, amount_plus}
 use Rattle.terms.specs.declared.amounts.Amount.{Amount}
-use Rattle.bookkeeping.specs.Cells.{opens_within, trades_within}
-use Rattle.bookkeeping.specs.State.{is_account, is_listing, account_place, listing_place, kind_of}
-use Rattle.bookkeeping.specs.declared.entry.Account.{Account}
-use Rattle.bookkeeping.specs.declared.entry.Listing.{Listing}
-use Rattle.ledger.specs.Places.{place_of, is_listed, amount_at, CellsWithin}
-use Rattle.ledger.proofs.Places.{listing_within}
+use Rattle.books.specs.Cells.{opens_within, trades_within}
+use Rattle.books.specs.State.{is_account, is_listing, kind_of}
+use Rattle.books.specs.declared.entry.Account.{Account}
+use Rattle.books.specs.declared.entry.Cell.{Cell}
+use Rattle.books.specs.declared.entry.Listing.{Listing}
+use Rattle.opening.proofs.Placing.{same_place}
+use Rattle.ledger.specs.Places.{place_of, is_listed, amount_at, openings, trades, CellsWithin}
+use Rattle.ledger.specs.Views.{opening, traded, bears_at}
+use Rattle.ledger.specs.declared.tables.Tables.{Tables}
+use Rattle.ledger.proofs.AtPlace.{no_cell, borne, place_low, At}
 
--- ---- a place is one account's and one contract's
-next : (n a b : ℕ) (s t : Bool) (i j : ℕ) → (s ≡ true → t ≡ true → i ≡ j → a ≡ b) → eqb n a || s ≡ true → eqb n b || t ≡ true → cond (eqb n a) 0 (suc i) ≡ cond (eqb n b) 0 (suc j) → a ≡ b
-next n a b s t i j f h k e = pick (eqb n a) (eqb n b) (eqb-true n a) (eqb-true n b) h k e
-  where
-    pick : (p q : Bool) → (p ≡ true → n ≡ a) → (q ≡ true → n ≡ b) → p || s ≡ true → q || t ≡ true → cond p 0 (suc i) ≡ cond q 0 (suc j) → a ≡ b
-    pick true true u v h k e = sym (u refl) ∙ v refl
-    pick true false u v h k e = absurd (omega arith)
-    pick false true u v h k e = absurd (omega arith)
-    pick false false u v h k e = f h k (omega arith)
+-- ---- what cells hold, with one cell written
+pub openings_kept : (ys : List Cell) (p : ℕ) (y : Cell) → y.opening ≡ (get_or ys p no_cell).opening → openings (set ys p y) ≡ openings ys
+openings_kept ys p y same = map-set_same (λ (x : Cell). x.opening) ys p y no_cell same
 
-same_row : (a b : ℕ) (xs : List Account) → is_account a xs ≡ true → is_account b xs ≡ true → account_place a xs ≡ account_place b xs → a ≡ b
-same_row a b [] h k e = absurd (let z : ◌≡◌ {A = ℕ} 0 1 = cc in omega arith)
-same_row a b (x ∷ xs) h k e = next x.number a b (is_account a xs) (is_account b xs) (account_place a xs) (account_place b xs) (same_row a b xs) h k e
+pub trades_set : (ys : List Cell) (p : ℕ) (y : Cell) → trades (set ys p y) ≡ set (trades ys) p y.traded
+trades_set ys p y = map-set (λ (x : Cell). x.traded) ys p y
 
-same_column : (a b : ℕ) (xs : List Listing) → is_listing a xs ≡ true → is_listing b xs ≡ true → listing_place a xs ≡ listing_place b xs → a ≡ b
-same_column a b [] h k e = absurd (let z : ◌≡◌ {A = ℕ} 0 1 = cc in omega arith)
-same_column a b (x ∷ xs) h k e = next x.number a b (is_listing a xs) (is_listing b xs) (listing_place a xs) (listing_place b xs) (same_column a b xs) h k e
+pub trades_low : (ys : List Cell) (p : ℕ) → p < length ys → p < length (trades ys)
+trades_low ys p h = omega (arith, length-map ys (λ (x : Cell). x.traded))
 
 module _ (xs : List Account) (cs : List Listing) where
-  pub same_place : (a c b d : ℕ) → is_listed xs cs a c ≡ true → is_listed xs cs b d ≡ true → place_of xs cs a c ≡ place_of xs cs b d → (a ≡ b) × (c ≡ d)
-  same_place a c b d h k e =
-      let p = and_parts (is_account a xs) (is_listing c cs) h in
-      let q = and_parts (is_account b xs) (is_listing d cs) k in
-      let i = listing_within c cs p.1 in
-      let j = listing_within d cs q.1 in
-      let n = length cs in
-      let row : account_place a xs ≡ account_place b xs = sym (div-mul-add (account_place a xs) n (listing_place c cs) i) ∙ ap (λ m. m / n) e ∙ div-mul-add (account_place b xs) n (listing_place d cs) j in
-      let column : listing_place c cs ≡ listing_place d cs = sym (mod-mul-add (account_place a xs) n (listing_place c cs) i) ∙ ap (λ m. m % n) e ∙ mod-mul-add (account_place b xs) n (listing_place d cs) j in
-      (same_row a b xs p.0 q.0 row, same_column c d cs p.1 q.1 column)
+  apart_place : (a c b d : ℕ) → is_listed xs cs a c ≡ true → is_listed xs cs b d ≡ true → place_of xs cs a c ≡ place_of xs cs b d → (a ≡ b) × (c ≡ d)
+  apart_place a c b d h k e = same_place xs cs (length cs) a c b d refl (and_parts (is_account a xs) (is_listing c cs) h) (and_parts (is_account b xs) (is_listing d cs) k) e
 
   -- ---- a write
   pub at_write : (ts : List Amount) (a c : ℕ) (y : Amount) → place_of xs cs a c < length ts → amount_at xs cs (set ts (place_of xs cs a c) y) a c ≡ y
   at_write ts a c y h = get_or-set_same ts (place_of xs cs a c) y no_amount h
 
   pub past_write : (ts : List Amount) (a c b d : ℕ) (y : Amount) → is_listed xs cs a c ≡ true → is_listed xs cs b d ≡ true → ((a ≡ b) × (c ≡ d) → ⊥) → amount_at xs cs (set ts (place_of xs cs b d) y) a c ≡ amount_at xs cs ts a c
-  past_write ts a c b d y h k ne = get_or-set_other ts (place_of xs cs b d) (place_of xs cs a c) y no_amount (λ e. ne (same_place a c b d h k e))
+  past_write ts a c b d y h k ne = get_or-set_other ts (place_of xs cs b d) (place_of xs cs a c) y no_amount (λ e. ne (apart_place a c b d h k e))
 
   -- the cell that was written, or another
   pub either : (P : Amount → Type 0) (ts : List Amount) (a c b d : ℕ) (y : Amount) → is_listed xs cs a c ≡ true → is_listed xs cs b d ≡ true → place_of xs cs b d < length ts
@@ -60,10 +48,36 @@ module _ (xs : List Account) (cs : List Listing) where
     ]
   ]
 
-  pub within_write : (os ts : List Amount) (b d : ℕ) (y : Amount) → CellsWithin xs cs os ts → is_listed xs cs b d ≡ true → place_of xs cs b d < length ts → trades_within (amount_at xs cs os b d) y ≡ true → CellsWithin xs cs os (set ts (place_of xs cs b d) y)
-  within_write os ts b d y w k l fits a c h =
-      let o = amount_at xs cs os a c in
-      let was = and_parts (opens_within (kind_of c cs) o) (trades_within o (amount_at xs cs ts a c)) (w a c h) in
-      either (λ (x : Amount). opens_within (kind_of c cs) o && trades_within o x ≡ true) ts a c b d y h k l
-      (λ s. and_from (opens_within (kind_of c cs) o) (trades_within o y) was.0 (ap₂ (λ i j. trades_within (amount_at xs cs os i j) y) s.0 s.1 ∙ fits))
-      (λ _. w a c h)
+  pub within_write : (ys : List Cell) (b d : ℕ) (y : Cell) → CellsWithin xs cs ys → is_listed xs cs b d ≡ true → place_of xs cs b d < length ys → y.opening ≡ (get_or ys (place_of xs cs b d) no_cell).opening → trades_within (amount_at xs cs (openings ys) b d) y.traded ≡ true → CellsWithin xs cs (set ys (place_of xs cs b d) y)
+  within_write ys b d y w k l same fits =
+      subst (λ (os : List Amount). (a c : ℕ) → is_listed xs cs a c ≡ true → (opens_within (kind_of c cs) (amount_at xs cs os a c) && trades_within (amount_at xs cs os a c) (amount_at xs cs (trades (set ys (place_of xs cs b d) y)) a c)) ≡ true) (sym (openings_kept ys (place_of xs cs b d) y same))
+      (subst (λ (ts : List Amount). (a c : ℕ) → is_listed xs cs a c ≡ true → (opens_within (kind_of c cs) (amount_at xs cs (openings ys) a c) && trades_within (amount_at xs cs (openings ys) a c) (amount_at xs cs ts a c)) ≡ true) (sym (trades_set ys (place_of xs cs b d) y))
+      (λ a c h. (
+      let o = amount_at xs cs (openings ys) a c in
+      let was = and_parts (opens_within (kind_of c cs) o) (trades_within o (amount_at xs cs (trades ys) a c)) (w a c h) in
+      either (λ (x : Amount). opens_within (kind_of c cs) o && trades_within o x ≡ true) (trades ys) a c b d y.traded h k (trades_low ys (place_of xs cs b d) l)
+      (λ s. and_from (opens_within (kind_of c cs) o) (trades_within o y.traded) was.0 (ap₂ (λ i j. trades_within (amount_at xs cs (openings ys) i j) y.traded) s.0 s.1 ∙ fits))
+      (λ _. w a c h))))
+
+-- ---- an amount more in one cell, which bears it
+module _ (t : Tables) (a c i : ℕ) (x y : Cell) (by : Amount) (at : At t a c i x) (same : y.opening ≡ x.opening) (more : y.traded ≡ amount_plus x.traded by) where
+  more_there : y.traded ≡ amount_plus (traded t a c) by
+  more_there = more ∙ ap (λ (z : Cell). amount_plus z.traded by) at.cell
+
+  same_there : y.opening ≡ (get_or (vec_items t.cells) i no_cell).opening
+  same_there = same ∙ ap (λ (z : Cell). z.opening) at.stored
+
+  pub posted_within : bears_at t a c by ≡ true → CellsWithin (vec_items t.accounts) (vec_items t.listings) (set (vec_items t.cells) i y)
+  posted_within bears =
+      let xs = vec_items t.accounts in
+      let cs = vec_items t.listings in
+      let ys = vec_items t.cells in
+      let fits : trades_within (amount_at xs cs (openings ys) a c) y.traded ≡ true = ap (trades_within (opening t a c)) more_there ∙ borne t a c by at.listed bears in
+      subst (λ j. CellsWithin xs cs (set ys j y)) (sym at.place)
+      (within_write xs cs ys a c y t.within at.listed (place_low t a c at.listed) (same_there ∙ ap (λ j. (get_or ys j no_cell).opening) at.place) fits)
+
+  pub posted_openings : openings (set (vec_items t.cells) i y) ≡ openings (vec_items t.cells)
+  posted_openings = openings_kept (vec_items t.cells) i y same_there
+
+  pub posted_trades : trades (set (vec_items t.cells) i y) ≡ set (trades (vec_items t.cells)) (place_of (vec_items t.accounts) (vec_items t.listings) a c) (amount_plus (traded t a c) by)
+  posted_trades = trades_set (vec_items t.cells) i y ∙ ap₂ (set (trades (vec_items t.cells))) at.place more_there

@@ -1,8 +1,8 @@
 -- What a call is refused for, by the entry that it is about.
 use Rattle.std.specs.Prelude.{Bool, false, not, ◌==◌}
-use Rattle.bookkeeping.specs.declared.entry.Call.{Call}
-use Rattle.bookkeeping.specs.declared.entry.Call.TheVariants.{Enter, Cancel, Transfer, LimitMember, LimitAgents}
-use Rattle.bookkeeping.specs.declared.entry.Entry.{Entry}
+use Rattle.books.specs.declared.entry.Call.{Call}
+use Rattle.books.specs.declared.entry.Call.TheVariants.{Enter, Cancel, Transfer, LimitMember, LimitAgents}
+use Rattle.books.specs.declared.entry.Entry.{Entry}
 
 abbrev pub missing : Call → Entry → Bool
 missing (Enter t) e = false

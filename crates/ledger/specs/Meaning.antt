@@ -1,7 +1,7 @@
 -- What a table book means.
 use Rattle.std.specs.Prelude.{List, [], take, vec_items}
-use Rattle.bookkeeping.specs.State.{State}
-use Rattle.bookkeeping.specs.declared.entry.Entry.{Entry}
+use Rattle.books.specs.State.{State}
+use Rattle.books.specs.declared.entry.Entry.{Entry}
 use Rattle.ledger.specs.Views.{opening}
 use Rattle.ledger.specs.declared.tables.Tables.{Tables}
 use Rattle.ledger.specs.declared.table_book.TableBook.{TableBook}

@@ -4,24 +4,24 @@ use Rattle.terms.specs.Amounts.{amount_plus, amount_minus}
 use Rattle.terms.specs.declared.amounts.Amount.{Amount}
 use Rattle.terms.specs.declared.refusal.Refusal.{Refusal}
 use Rattle.terms.specs.declared.refusal.Refusal.TheVariants.{NotInBook}
-use Rattle.bookkeeping.specs.Cells.{trades_within}
-use Rattle.bookkeeping.specs.Limits.{held_by}
-use Rattle.bookkeeping.specs.State.{Holding, is_listing}
-use Rattle.bookkeeping.specs.declared.entry.Account.{Account}
-use Rattle.bookkeeping.specs.declared.entry.Whose.{Whose}
-use Rattle.bookkeeping.specs.declared.shift.Shift.{Shift}
-use Rattle.ledger.specs.Places.{cell_at, amount_at, is_listed}
+use Rattle.books.specs.Cells.{trades_within}
+use Rattle.books.specs.Limits.{held_by}
+use Rattle.books.specs.State.{Holding, is_listing}
+use Rattle.books.specs.declared.entry.Account.{Account}
+use Rattle.books.specs.declared.entry.Whose.{Whose}
+use Rattle.books.specs.Shifts.{Movement}
+use Rattle.ledger.specs.Places.{cell_at, openings, trades, amount_at, is_listed}
 use Rattle.ledger.specs.declared.tables.Tables.{Tables}
 
 abbrev pub holding_of : Tables → Holding
-holding_of t = record { accounts = vec_items t.accounts; listings = vec_items t.listings; cell = cell_at (vec_items t.accounts) (vec_items t.listings) (vec_items t.opening) (vec_items t.traded) }
+holding_of t = record { accounts = vec_items t.accounts; listings = vec_items t.listings; cell = cell_at (vec_items t.accounts) (vec_items t.listings) (vec_items t.cells) }
 
 -- by account and contract
 abbrev pub opening : Tables → ℕ → ℕ → Amount
-opening t a c = amount_at (vec_items t.accounts) (vec_items t.listings) (vec_items t.opening) a c
+opening t a c = amount_at (vec_items t.accounts) (vec_items t.listings) (openings (vec_items t.cells)) a c
 
 abbrev pub traded : Tables → ℕ → ℕ → Amount
-traded t a c = amount_at (vec_items t.accounts) (vec_items t.listings) (vec_items t.traded) a c
+traded t a c = amount_at (vec_items t.accounts) (vec_items t.listings) (trades (vec_items t.cells)) a c
 
 abbrev pub is_in : Tables → ℕ → ℕ → Bool
 is_in t a c = is_listed (vec_items t.accounts) (vec_items t.listings) a c
@@ -35,7 +35,7 @@ bears_by t None c by = true
 bears_by t (Some a) c by = bears_at t a c by
 
 -- each account that an amount goes out of or into bears it
-abbrev pub bears : Tables → Shift → Bool
+abbrev pub bears : Tables → Movement → Bool
 bears t h = bears_by t h.from h.contract (amount_minus h.amount) && bears_by t h.to h.contract h.amount
 
 -- all but what was traded is as it was
@@ -43,7 +43,7 @@ pub record Kept (t u : Tables) : Type 0 where
   pub date : u.date ≡ t.date
   pub accounts : u.accounts ≡ t.accounts
   pub listings : u.listings ≡ t.listings
-  pub opening : u.opening ≡ t.opening
+  pub opening : openings (vec_items u.cells) ≡ openings (vec_items t.cells)
 
 -- ---- sums
 abbrev pub nobody : Account

@@ -1,42 +1,26 @@
 ghost use Rattle.std.specs.Prelude.{◌≡◌};
-ghost use Rattle.bookkeeping.specs.Answers.{entry_at, not_in_book, registration_over, is_over, journal_full, entry_of, answer};
-ghost use Rattle.bookkeeping.specs.Shifts.{entry_for};
+ghost use Rattle.books.specs.Answers.{entry_at, not_in_book, registration_over, is_over, journal_full, entry_of, answer};
+ghost use Rattle.books.specs.Shifts.{entry_for};
 ghost use Rattle.ledger.specs.Asked.{missing, own};
 ghost use Rattle.ledger.specs.Meaning.{state_of};
 
 use crate::table_book::TableBook;
 use crate::tables::Tables;
-use bookkeeping::{Call, Entry, Trade};
+use books::{Call, Entry, row_of};
 use terms::Refusal;
-
-pub(crate) const BLANK: Entry = Entry {
-    trade: Trade {
-        account: 0,
-        contract: 0,
-        quantity: 0,
-        price: 0,
-    },
-    stands: false,
-};
 
 // Whether the entry of a cancellation or a transfer is unused or cancelled.
 fn is_missing(call: Call, entry: Entry) -> bool
     ensures { result ≡ missing call entry }
 {
-    match call {
-        Call::Cancel(_) | Call::Transfer(_, _) => !entry.stands,
-        Call::Enter(_) | Call::LimitMember(_, _) | Call::LimitAgents(_, _) => false,
-    }
+    matches!(call, Call::Cancel(_) | Call::Transfer(_, _)) && !entry.stands
 }
 
 // Whether a transfer goes to the account that the entry is of.
 fn is_own(call: Call, entry: Entry) -> bool
     ensures { result ≡ own call entry }
 {
-    match call {
-        Call::Transfer(_, account) => entry.trade.account == account,
-        _ => false,
-    }
+    matches!(call, Call::Transfer(_, account) if entry.trade.account == account)
 }
 
 impl Tables {
@@ -44,10 +28,7 @@ impl Tables {
     fn is_over(&self, contract: u16) -> bool
         ensures { result ≡ is_over self.now.date.number contract self.now.listings.items }
     {
-        match self.column_of(contract) {
-            Some(column) => self.listings[column].registration.number < self.date.number,
-            None => false,
-        }
+        row_of(&self.listings, contract).is_some_and(|listing| listing.registration < self.date)
     }
 }
 
@@ -56,14 +37,11 @@ impl TableBook<'_> {
         ensures { result ≡ not_in_book (state_of self.now) call }
     {
         match call {
-            Call::Enter(trade) => {
-                !(self.tables.row_of(trade.account).is_some()
-                    && self.tables.column_of(trade.contract).is_some())
-            }
+            Call::Enter(trade) => self.tables.place(trade.account, trade.contract).is_none(),
             Call::Cancel(_) => false,
-            Call::Transfer(_, account) => !self.tables.row_of(account).is_some(),
+            Call::Transfer(_, account) => self.tables.row_of(account).is_none(),
             Call::LimitMember(contract, _) | Call::LimitAgents(contract, _) => {
-                !self.tables.column_of(contract).is_some()
+                self.tables.column_of(contract).is_none()
             }
         }
     }
@@ -71,32 +49,22 @@ impl TableBook<'_> {
     fn is_registration_over(&self, call: Call) -> bool
         ensures { result ≡ registration_over (state_of self.now) call }
     {
-        match call {
-            Call::Enter(trade) => self.tables.is_over(trade.contract),
-            _ => false,
-        }
+        matches!(call, Call::Enter(trade) if self.tables.is_over(trade.contract))
     }
 
     fn is_full(&self, call: Call) -> bool
         ensures { result ≡ journal_full (state_of self.now) call }
     {
-        match call {
-            Call::Enter(_) => self.used >= 4096,
-            _ => false,
-        }
+        matches!(call, Call::Enter(_)) && usize::from(self.used) >= self.journal.len()
     }
 
     // The entry of a number; a blank one where there is none.
     pub(crate) fn entry_at(&self, number: u16) -> Entry
         ensures { result ≡ entry_at (state_of self.now) number }
     {
-        let at = number.saturating_sub(1);
-        if at < self.used {
-            let entries = &*self.journal;
-            entries[at as usize]
-        } else {
-            BLANK
-        }
+        let entries = &self.journal[..usize::from(self.used)];
+        let at = usize::from(number.saturating_sub(1));
+        entries.get(at).copied().unwrap_or(Entry::BLANK)
     }
 
     // The entry that a call is about.
@@ -105,7 +73,7 @@ impl TableBook<'_> {
     {
         match call {
             Call::Cancel(number) | Call::Transfer(number, _) => self.entry_at(number),
-            Call::Enter(_) | Call::LimitMember(_, _) | Call::LimitAgents(_, _) => BLANK,
+            Call::Enter(_) | Call::LimitMember(_, _) | Call::LimitAgents(_, _) => Entry::BLANK,
         }
     }
 

@@ -3,7 +3,7 @@ ghost use Rattle.ledger.specs.Meaning.{state_of};
 ghost use Rattle.ledger.specs.Views.{holding_of};
 
 use crate::table_book::TableBook;
-use bookkeeping::{Account, Book, Call, Cell, Entry, Holdings, Listing, Whose};
+use books::{Account, Book, Call, Cell, Entry, Holdings, Listing, Trade, Whose};
 use terms::Refusal;
 
 impl<'a> Holdings for TableBook<'a> {
@@ -48,10 +48,23 @@ impl<'a> Book for TableBook<'a> {
 
     fn take(&mut self, call: Call) -> Result<u16, Refusal> {
         let answer = self.answer_to(call)?;
+        let entry = self.entry_for(call);
         match call {
-            Call::Enter(trade) => self.put(trade),
-            Call::Cancel(number) => self.strike(number),
-            Call::Transfer(number, account) => self.pass(number, account),
+            Call::Enter(trade) => {
+                let stands = true;
+                self.write(call, self.used, Entry { trade, stands });
+            }
+            Call::Cancel(number) => {
+                let stands = false;
+                self.write(call, number - 1, Entry { stands, ..entry });
+            }
+            Call::Transfer(number, account) => {
+                let trade = Trade {
+                    account,
+                    ..entry.trade
+                };
+                self.write(call, number - 1, Entry { trade, ..entry });
+            }
             Call::LimitMember(_, _) | Call::LimitAgents(_, _) => {}
         }
         Ok(answer)

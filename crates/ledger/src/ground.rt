@@ -1,5 +1,4 @@
-ghost use Rattle.std.specs.Prelude.{◌≡◌, ℕ, pos};
-ghost use Rattle.ledger.specs.Tied.{NoQuantities, NoValues};
+ghost use Rattle.ledger.specs.Tied.{Untraded};
 
 use crate::tables::Tables;
 
@@ -7,6 +6,5 @@ use crate::tables::Tables;
 #[derive(Drop)]
 pub struct Ground {
     pub tables: Tables,
-    ghost quantities: { NoQuantities tables.traded.items },
-    ghost values: { NoValues tables.traded.items },
+    ghost untraded: { Untraded tables.cells.items },
 }

@@ -5,7 +5,7 @@ mod asking;
 mod book;
 mod changing;
 mod ground;
-mod place;
+mod posting;
 mod reading;
 mod starting;
 mod sums;

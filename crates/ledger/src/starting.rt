@@ -1,37 +1,39 @@
-ghost use Rattle.std.specs.Prelude.{◌≡◌, [], IfOk};
+ghost use Rattle.std.specs.Prelude.{◌≡◌, [], map, IfOk};
 ghost use Rattle.ledger.specs.Meaning.{state_by, state_of};
-ghost use Rattle.ledger.specs.Starts.{Opens};
+ghost use Rattle.ledger.specs.Starts.{Opens, untraded};
 
 use crate::ground::Ground;
 use crate::table_book::TableBook;
 use crate::tables::Tables;
-use bookkeeping::Entry;
+use books::{Cell, Entry};
 use opening::Opening;
 use std::alloc::{AllocError, Global};
-use terms::Amount;
+use terms::{Additive, Amount};
 
 impl Ground {
     // The accounts, contracts and amounts of an opening, with nothing traded. All memory is taken here.
     pub fn of(heap: Global, opening: &Opening) -> Result<Ground, AllocError>
         ensures { IfOk result (λ g. Opens opening.now (state_by g.tables [])) }
     {
-        let accounts = Vec::from_slice(heap, &opening.accounts)?;
-        let listings = Vec::from_slice(heap, &opening.listings)?;
-        let amounts = Vec::from_slice(heap, &opening.amounts)?;
-        let nothing = Amount {
-            quantity: 0,
-            value: 0,
-        };
-        let traded = vec![in heap; nothing; opening.amounts.len()]?;
         let tables = Tables {
             date: opening.date,
-            accounts,
-            listings,
-            opening: amounts,
-            traded,
+            accounts: Vec::from_slice(heap, &opening.accounts.rows)?,
+            listings: Vec::from_slice(heap, &opening.listings)?,
+            cells: untraded(heap, &opening.amounts)?,
         };
         Ok(Ground { tables })
     }
+}
+
+// A cell at each place, with what it opens with.
+fn untraded(heap: Global, amounts: &[Option<Amount>]) -> Result<Vec<Cell>, AllocError>
+    ensures { IfOk result (λ v. v.items ≡ map untraded amounts.now) }
+{
+    let cells = amounts.iter().map(|amount| Cell {
+        opening: amount.unwrap_or(Amount::zero()),
+        traded: Amount::zero(),
+    });
+    cells.collect(heap)
 }
 
 impl<'a> TableBook<'a> {

@@ -1,27 +1,23 @@
-ghost use Rattle.std.specs.Prelude.{◌≡◌, ◌<◌, ◌≤◌, true, get_or, pos, IfOk, if◌then◌else◌, vec_len, slice_index_or, unsigned_abs};
-ghost use Rattle.bookkeeping.specs.Limits.{is_of};
-ghost use Rattle.bookkeeping.specs.State.{is_listing, listing_place};
+ghost use Rattle.std.specs.Prelude.{◌≡◌, ◌<◌, ◌≤◌, true, IfOk, vec_len, slice_index_or, unsigned_abs};
+ghost use Rattle.books.specs.State.{is_listing, listing_place};
 ghost use Rattle.ledger.specs.Views.{net_of, held_in, nobody};
 
 use crate::tables::Tables;
-use bookkeeping::Whose;
+use arrayvec::ArrayVec;
+use books::Whose;
 use terms::{Refusal, total};
 
 impl Tables {
-    // The net position of the account at a place, in the contract at another; nothing of an account that is not summed.
-    fn net_at(&self, whose: Whose, row: usize, column: usize, contract: u16) -> i64
+    // The net position of the account at a place, in the contract at another.
+    fn net_at(&self, row: usize, column: usize, contract: u16) -> i64
         requires row { row < vec_len self.now.accounts }
         requires listed { is_listing contract self.now.listings.items ≡ true }
         requires column { column ≡ listing_place contract self.now.listings.items }
-        ensures value { result ≡ (if is_of whose (slice_index_or self.now.accounts.items row nobody) then net_of self.now (get_or self.now.accounts.items row nobody).number contract else pos 0) }
+        ensures value { result ≡ net_of self.now (slice_index_or self.now.accounts.items row nobody).number contract }
         ensures bound { unsigned_abs result ≤ 10000 }
     {
-        if whose.has(self.accounts[row]) {
-            let at = row * self.listings.len() + column;
-            self.opening[at].quantity + self.traded[at].quantity
-        } else {
-            0
-        }
+        let cell = self.cells[row * self.listings.len() + column];
+        cell.opening.quantity + cell.traded.quantity
     }
 
     // The sum of the net positions of some accounts in a contract.
@@ -29,14 +25,13 @@ impl Tables {
         ensures value { result ≡ held_in self.now whose contract }
         ensures bound { IfOk result (λ n. unsigned_abs n ≤ 320000) }
     {
-        let Some(column) = self.column_of(contract) else {
-            return Err(Refusal::NotInBook);
-        };
-        let count = self.accounts.len();
-        let mut nets = [0; 32];
-        for row in 0..count {
-            nets[row] = self.net_at(whose, row, column, contract);
+        let column = self.column_of(contract).ok_or(Refusal::NotInBook)?;
+        let mut nets: ArrayVec<i64, 32> = ArrayVec::new();
+        for (row, account) in self.accounts.iter().enumerate() {
+            if whose.has(*account) {
+                nets.push(self.net_at(row, column, contract));
+            }
         }
-        Ok(total(&nets[0..count]))
+        Ok(total(&nets))
     }
 }

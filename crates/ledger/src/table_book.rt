@@ -1,11 +1,11 @@
 ghost use Rattle.std.specs.Prelude.{◌≡◌, ◌≤◌, length, take};
-ghost use Rattle.ledger.specs.Tied.{AllListed, QuantitiesTied, ValuesTied};
+ghost use Rattle.ledger.specs.Tied.{AllListed, Tied};
 
 use crate::tables::Tables;
-use bookkeeping::Entry;
+use books::Entry;
 
-// A book that holds every cell. Its journal is the caller's, lent with room for all entries, and marked and moved in
-// place: the first `used` of it are in use.
+// A book that holds every cell. No call takes memory, so its journal is the caller's, lent with room for all entries,
+// and marked and moved in place: the first `used` of it are in use.
 #[derive(Drop)]
 pub struct TableBook<'a> {
     pub journal: &'a mut [Entry; 4096],
@@ -14,6 +14,5 @@ pub struct TableBook<'a> {
     ghost long: { length journal.now ≡ 4096 },
     ghost fits: { used ≤ 4096 },
     ghost listed: { AllListed tables.accounts.items tables.listings.items used journal.now },
-    ghost quantities: { QuantitiesTied tables.accounts.items tables.listings.items tables.traded.items (take used journal.now) },
-    ghost values: { ValuesTied tables.accounts.items tables.listings.items tables.traded.items (take used journal.now) },
+    ghost tied: { Tied tables.accounts.items tables.listings.items tables.cells.items (take used journal.now) },
 }

@@ -1,51 +1,26 @@
-ghost use Rattle.std.specs.Prelude.{◌≡◌, true, is_ok};
-ghost use Rattle.bookkeeping.specs.Answers.{answer, taken};
-ghost use Rattle.bookkeeping.specs.declared.entry.Call.TheVariants.{Enter, Cancel, Transfer};
+ghost use Rattle.std.specs.Prelude.{◌≡◌, ◌+◌, ◌<◌, ◌≤◌, max, true, is_ok, take, slice_set};
+ghost use Rattle.books.specs.Answers.{answer, taken};
 ghost use Rattle.ledger.specs.Meaning.{state_of};
+ghost use Rattle.ledger.specs.Views.{is_in};
 
-use crate::asking::BLANK;
 use crate::table_book::TableBook;
-use bookkeeping::{Call, Entry, Trade};
+use books::{Call, Entry};
 
-// Each writes the journal first and the cells last: between the two the cells do not follow it.
 impl TableBook<'_> {
-    // Puts a trade at the end of the journal.
-    pub(crate) fn put(&mut self, trade: Trade)
-        requires { is_ok (answer (state_of self.old) (Enter trade)) ≡ true }
-        ensures state { state_of self.new ≡ taken (state_of self.old) (Enter trade) }
+    // Writes the entry of a call that is taken, at its place. The journal goes first and the cells last: between the two
+    // the cells do not follow it.
+    pub(crate) fn write(&mut self, call: Call, at: u16, entry: Entry)
+        requires taken { is_ok (answer (state_of self.old) call) ≡ true }
+        requires place { at ≤ self.old.used }
+        requires room { at < 4096 }
+        requires listed { is_in self.old.tables entry.trade.account entry.trade.contract ≡ true }
+        requires journal { take (max self.old.used (at + 1)) (slice_set self.old.journal.now at entry) ≡ (taken (state_of self.old) call).journal }
+        ensures state { state_of self.new ≡ taken (state_of self.old) call }
         ensures lender { self.new.journal.ghost_name ≡ self.old.journal.ghost_name }
     {
-        let shift = Call::Enter(trade).shift(BLANK);
-        let at = self.used as usize;
-        self.journal[at] = Entry {
-            trade,
-            stands: true,
-        };
-        self.used += 1;
-        self.tables.apply(shift);
-    }
-
-    // Marks an entry as cancelled.
-    pub(crate) fn strike(&mut self, number: u16)
-        requires { is_ok (answer (state_of self.old) (Cancel number)) ≡ true }
-        ensures state { state_of self.new ≡ taken (state_of self.old) (Cancel number) }
-        ensures lender { self.new.journal.ghost_name ≡ self.old.journal.ghost_name }
-    {
-        let shift = Call::Cancel(number).shift(self.entry_at(number));
-        let at = (number - 1) as usize;
-        self.journal[at].stands = false;
-        self.tables.apply(shift);
-    }
-
-    // Moves an entry whole to another account.
-    pub(crate) fn pass(&mut self, number: u16, account: u16)
-        requires { is_ok (answer (state_of self.old) (Transfer number account)) ≡ true }
-        ensures state { state_of self.new ≡ taken (state_of self.old) (Transfer number account) }
-        ensures lender { self.new.journal.ghost_name ≡ self.old.journal.ghost_name }
-    {
-        let shift = Call::Transfer(number, account).shift(self.entry_at(number));
-        let at = (number - 1) as usize;
-        self.journal[at].trade.account = account;
+        let shift = call.shift(self.entry_for(call));
+        self.journal[usize::from(at)] = entry;
+        self.used = self.used.max(at + 1);
         self.tables.apply(shift);
     }
 }

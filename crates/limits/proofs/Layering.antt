@@ -6,13 +6,13 @@ use Rattle.terms.specs.Ranges.{holds_in}
 use Rattle.terms.specs.declared.bounds.Bounds.TheVariants as Bounds
 use Rattle.terms.specs.declared.refusal.Refusal.{Refusal}
 use Rattle.terms.specs.declared.refusal.Refusal.TheVariants.{OutOfRange, NotInBook, RegistrationOver, JournalFull, NoStandingEntry, OwnAccount, CellOutOfRange, OverLimit}
-use Rattle.bookkeeping.specs.declared.entry.Call.{Call}
-use Rattle.bookkeeping.specs.declared.entry.Call.TheVariants.{Enter, Cancel, Transfer, LimitMember, LimitAgents}
-use Rattle.bookkeeping.specs.Answers.{Place, taken, changed, any_unfit, any_over, out_of_range, not_in_book, registration_over, journal_full, no_standing_entry, own_account, entry_of, entry_at, entry_shown, within, answer}
-use Rattle.bookkeeping.specs.declared.entry.Entry.{Entry}
-use Rattle.bookkeeping.specs.Journal.{blank}
-use Rattle.bookkeeping.specs.Limits.{exceeds, any_exceeds}
-use Rattle.bookkeeping.specs.State.{State, Layer, Holding, Follows}
+use Rattle.books.specs.declared.entry.Call.{Call}
+use Rattle.books.specs.declared.entry.Call.TheVariants.{Enter, Cancel, Transfer, LimitMember, LimitAgents}
+use Rattle.books.specs.Answers.{Place, taken, changed, any_unfit, any_over, out_of_range, not_in_book, registration_over, journal_full, no_standing_entry, own_account, entry_of, entry_at, entry_shown, within, answer}
+use Rattle.books.specs.declared.entry.Entry.{Entry}
+use Rattle.books.specs.Journal.{blank}
+use Rattle.books.specs.Limits.{exceeds, any_exceeds}
+use Rattle.books.specs.State.{State, Layer, Holding, Follows}
 use Rattle.limits.specs.Layers.{layered, own_over, layer_answer}
 
 -- ---- the layers below do not look at the layer above

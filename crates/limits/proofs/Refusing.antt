@@ -1,13 +1,12 @@
 -- What a layer refuses, from what its code reads.
 use Rattle.std.proofs.Common.{◌≡◌, ℕ, Bool, true, false, ◌||◌, List, is_ok, Some, None, vec_items, Option, sym, refl, ap, ◌∙◌, ap₂}
-use Rattle.bookkeeping.specs.declared.entry.Call.{Call}
-use Rattle.bookkeeping.specs.declared.entry.Entry.{Entry}
-use Rattle.bookkeeping.specs.declared.entry.Listing.{Listing}
-use Rattle.bookkeeping.specs.declared.entry.Scope.{Scope}
-use Rattle.bookkeeping.specs.declared.shift.Shift.{Shift}
-use Rattle.bookkeeping.specs.Answers.{answer, taken, changed}
-use Rattle.bookkeeping.specs.Shifts.{shift_by, entry_for}
-use Rattle.bookkeeping.specs.State.{State, Layer, Holding, Follows, is_listing}
+use Rattle.books.specs.declared.entry.Call.{Call}
+use Rattle.books.specs.declared.entry.Entry.{Entry}
+use Rattle.books.specs.declared.entry.Listing.{Listing}
+use Rattle.books.specs.declared.entry.Scope.{Scope}
+use Rattle.books.specs.Answers.{answer, taken, changed}
+use Rattle.books.specs.Shifts.{Movement, shift_by, entry_for}
+use Rattle.books.specs.State.{State, Layer, Holding, Follows, is_listing}
 use Rattle.limits.specs.Layers.{layer_of, own_over}
 use Rattle.limits.specs.Sums.{limit_of, over_at, over_by}
 use Rattle.limits.specs.declared.table.LimitTable.{LimitTable}
@@ -16,7 +15,7 @@ use Rattle.limits.proofs.Places.{limited_listed}
 use Rattle.limits.proofs.Sums.{over_by_is, none_over}
 
 -- the entry, the shift and the limit that were read for a call that the book below takes
-module _ (w : Scope) (t : LimitTable) (call : Call) {h : Holding} {s : State} {e : Entry} {x : Shift} {limit : Option ℕ}
+module _ (w : Scope) (t : LimitTable) (call : Call) {h : Holding} {s : State} {e : Entry} {x : Movement} {limit : Option ℕ}
     (f : Follows h s) (ok : is_ok (answer s call) ≡ true) (entry : e ≡ entry_for s call) (shift : x ≡ shift_by e call)
     (read : limit ≡ limit_of (layer_of w t h.listings) h.listings x.contract) where
   abbrev own : Layer

@@ -1,22 +1,23 @@
 -- What a call does to the sums of net positions.
 use Rattle.std.proofs.Common.{◌≡◌, ℕ, Bool, true, false, cond, not, ◌||◌, eqb, List, [], ◌∷◌, ℤ, pos, ◌+ℤ◌, neg_ℤ, Some, None, Option, sym, refl, ap, ◌∙◌, ap₂, arith}
+use Rattle.std.specs.List.{find}
+use Rattle.std.proofs.Math.Bool.{or-false}
 use Rattle.std.proofs.lemmas.Int.{ints}
 use Rattle.std.proofs.lemmas.Bool.{eqb-true, eqb-false, eq-eqb, ne_eqb, and_parts, or_parts, not-true}
 use Rattle.terms.specs.Amounts.{no_amount, amount_plus, amount_minus}
 use Rattle.terms.specs.declared.amounts.Amount.{Amount}
-use Rattle.bookkeeping.specs.declared.entry.Account.{Account}
-use Rattle.bookkeeping.specs.declared.entry.Call.{Call}
-use Rattle.bookkeeping.specs.declared.entry.Call.TheVariants.{Enter, Cancel, Transfer, LimitMember, LimitAgents}
-use Rattle.bookkeeping.specs.declared.entry.Scope.{Scope}
-use Rattle.bookkeeping.specs.declared.entry.Whose.{Whose}
-use Rattle.bookkeeping.specs.declared.shift.Shift.{Shift}
-use Rattle.bookkeeping.specs.Answers.{entry_at, taken, changed, no_standing_entry}
-use Rattle.bookkeeping.specs.Limits.{net, is_of, held_by, held, sum_of, grows, exceeds}
-use Rattle.bookkeeping.specs.Shifts.{shift_of, is_at, shifts}
-use Rattle.bookkeeping.specs.State.{State, Layer, is_account, are_apart}
-use Rattle.bookkeeping.proofs.Shifts.{after_call}
+use Rattle.books.specs.declared.entry.Account.{Account}
+use Rattle.books.specs.declared.entry.Call.{Call}
+use Rattle.books.specs.declared.entry.Call.TheVariants.{Enter, Cancel, Transfer, LimitMember, LimitAgents}
+use Rattle.books.specs.declared.entry.Scope.{Scope}
+use Rattle.books.specs.declared.entry.Whose.{Whose}
+use Rattle.books.specs.Answers.{entry_at, taken, changed, no_standing_entry}
+use Rattle.books.specs.Limits.{net, is_of, held_by, held, sum_of, grows, exceeds}
+use Rattle.books.specs.Shifts.{Movement, shift_of, is_at, shifts}
+use Rattle.books.specs.State.{State, Layer, is_account, are_apart}
+use Rattle.books.proofs.Shifts.{after_call}
 use Rattle.limits.specs.Layers.{own_over}
-use Rattle.limits.specs.Sums.{account_of, is_part, belongs, change, held_after, limit_of, over_at, over_by}
+use Rattle.limits.specs.Sums.{is_part, belongs, change, held_after, limit_of, over_at, over_by}
 
 -- ---- sums are linear
 held_plus : (w : Whose) (n m d : ℕ → ℤ) (xs : List Account) → ((a : ℕ) → n a ≡ m a +ℤ d a) → held_by w n xs ≡ held_by w m xs +ℤ held_by w d xs
@@ -53,15 +54,15 @@ part_cond : (w : Whose) (t : Bool) (x : Account) (o : Option Account) → is_par
 part_cond w true x o = refl
 part_cond w false x o = refl
 
-part_at : (w : Whose) (b : ℕ) (q : ℤ) (xs : List Account) → are_apart xs ≡ true → held_by w (λ a. cond (eqb b a) q (pos 0)) xs ≡ cond (is_part w (account_of b xs)) q (pos 0)
+part_at : (w : Whose) (b : ℕ) (q : ℤ) (xs : List Account) → are_apart xs ≡ true → held_by w (λ a. cond (eqb b a) q (pos 0)) xs ≡ cond (is_part w (find (λ x. eqb x.number b) xs)) q (pos 0)
 part_at w b q [] h = refl
 part_at w b q (x ∷ xs) h =
     let p = and_parts (not (is_account x.number xs)) (are_apart xs) h in
     let off = not-true (is_account x.number xs) p.0 in
     let alone : eqb b x.number ≡ true → held_by w (λ a. cond (eqb b a) q (pos 0)) xs ≡ pos 0 = λ e. absent w b q xs (ap (λ (a : ℕ). is_account a xs) (eqb-true b x.number e) ∙ off) in
-    here_or_later (eqb b x.number) (is_of w x) (is_part w (account_of b xs)) q _ alone (part_at w b q xs p.1)
-    ∙ ap (λ (t : Bool). cond (cond t (is_of w x) (is_part w (account_of b xs))) q (pos 0)) (eqb_turned x.number b _ refl)
-    ∙ ap (λ (t : Bool). cond t q (pos 0)) (sym (part_cond w (eqb x.number b) x (account_of b xs)))
+    here_or_later (eqb b x.number) (is_of w x) (is_part w (find (λ x. eqb x.number b) xs)) q _ alone (part_at w b q xs p.1)
+    ∙ ap (λ (t : Bool). cond (cond t (is_of w x) (is_part w (find (λ x. eqb x.number b) xs))) q (pos 0)) (eqb_turned x.number b _ refl)
+    ∙ ap (λ (t : Bool). cond t q (pos 0)) (sym (part_cond w (eqb x.number b) x (find (λ x. eqb x.number b) xs)))
 
 part_of : (w : Whose) (o : Option ℕ) (q : ℤ) (xs : List Account) → are_apart xs ≡ true → held_by w (λ a. cond (is_at o a) q (pos 0)) xs ≡ cond (belongs w o xs) q (pos 0)
 part_of w None q xs h = held_none w xs
@@ -79,7 +80,7 @@ less : (t : Bool) (q : ℤ) → cond t (neg_ℤ q) (pos 0) ≡ neg_ℤ (cond t q
 less true q = refl
 less false q = refl
 
-added : (w : Whose) (h : Shift) (xs : List Account) → are_apart xs ≡ true → held_by w (λ a. (shifts h a h.contract).quantity) xs ≡ change w h xs
+added : (w : Whose) (h : Movement) (xs : List Account) → are_apart xs ≡ true → held_by w (λ a. (shifts h a h.contract).quantity) xs ≡ change w h xs
 added w h xs apart =
     let q = h.amount.quantity in
     let here = eq-eqb h.contract h.contract refl in
@@ -123,24 +124,20 @@ place_over y s call a apart stands =
     let w = sum_of y.scope a s.accounts in
     ap (grows (limit_of y s.listings h.contract) (held s w h.contract)) (held_after_is s call w apart stands)
 
-or_false : (b : Bool) → (b || false) ≡ b
-or_false true = refl
-or_false false = refl
-
 pub over_by_is : (y : Layer) (s : State) (call : Call) → are_apart s.accounts ≡ true → no_standing_entry s call ≡ false → own_over y s (taken s call) (changed s call) ≡ over_by y s (shift_of s call)
-over_by_is y s (Enter t) apart stands = or_false _ ∙ place_over y s (Enter t) t.account apart stands
+over_by_is y s (Enter t) apart stands = or-false _ ∙ place_over y s (Enter t) t.account apart stands
 over_by_is y s (Cancel k) apart stands = ap (λ (b : Bool). b || false) (place_over y s (Cancel k) (entry_at s k).trade.account apart stands)
 over_by_is y s (Transfer k a) apart stands =
-    ap₂ (λ (b d : Bool). b || d) (place_over y s (Transfer k a) (entry_at s k).trade.account apart stands) (or_false _ ∙ place_over y s (Transfer k a) a apart stands)
+    ap₂ (λ (b d : Bool). b || d) (place_over y s (Transfer k a) (entry_at s k).trade.account apart stands) (or-false _ ∙ place_over y s (Transfer k a) a apart stands)
 over_by_is y s (LimitMember c most) apart stands = refl
 over_by_is y s (LimitAgents c most) apart stands = refl
 
-unlimited : (w : Scope) (s : State) (h : Shift) (o : Option ℕ) → over_at None w s h o ≡ false
+unlimited : (w : Scope) (s : State) (h : Movement) (o : Option ℕ) → over_at None w s h o ≡ false
 unlimited w s h None = refl
 unlimited w s h (Some a) = refl
 
 -- where there is no limit, none is passed
-pub none_over : (y : Layer) (s : State) (h : Shift) → limit_of y s.listings h.contract ≡ None → over_by y s h ≡ false
+pub none_over : (y : Layer) (s : State) (h : Movement) → limit_of y s.listings h.contract ≡ None → over_by y s h ≡ false
 none_over y s h e =
     ap (λ (l : Option ℕ). over_at l y.scope s h h.from || over_at l y.scope s h h.to) e
     ∙ ap₂ (λ (b d : Bool). b || d) (unlimited y.scope s h h.from) (unlimited y.scope s h h.to)

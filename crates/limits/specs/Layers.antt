@@ -2,16 +2,17 @@
 use Rattle.std.specs.Prelude.{ℕ, Bool, false, cond, ◌||◌, List, [], ◌∷◌, length, take, Some, None, Ok, Err, vec_items, Option, Result, slice_set}
 use Rattle.terms.specs.declared.refusal.Refusal.{Refusal}
 use Rattle.terms.specs.declared.refusal.Refusal.TheVariants.{OverLimit}
-use Rattle.bookkeeping.specs.declared.entry.Call.{Call}
-use Rattle.bookkeeping.specs.declared.entry.Call.TheVariants.{Enter, Cancel, Transfer, LimitMember, LimitAgents}
-use Rattle.bookkeeping.specs.declared.entry.Listing.{Listing}
-use Rattle.bookkeeping.specs.declared.entry.Scope.{Scope}
-use Rattle.bookkeeping.specs.declared.entry.Scope.TheVariants.{Member, Agents}
-use Rattle.bookkeeping.specs.Answers.{Place, with_layers}
-use Rattle.bookkeeping.specs.Limits.{exceeds}
-use Rattle.bookkeeping.specs.State.{State, Layer, listing_place}
+use Rattle.books.specs.declared.entry.Call.{Call}
+use Rattle.books.specs.declared.entry.Call.TheVariants.{Enter, Cancel, Transfer, LimitMember, LimitAgents}
+use Rattle.books.specs.declared.entry.Listing.{Listing}
+use Rattle.books.specs.declared.entry.Scope.{Scope}
+use Rattle.books.specs.declared.entry.Scope.TheVariants.{Member, Agents}
+use Rattle.books.specs.Answers.{Place, with_layers}
+use Rattle.books.specs.Limits.{exceeds}
+use Rattle.books.specs.State.{State, Layer, listing_place}
 use Rattle.limits.specs.declared.scope.NewLimit.{NewLimit}
 use Rattle.limits.specs.declared.table.LimitTable.{LimitTable}
+use Rattle.limits.specs.declared.table.Limits.{Limits}
 
 -- all but the first
 abbrev pub past : {X : Type 0} → List X → List X
@@ -29,6 +30,10 @@ layered y s = with_layers s (y ∷ s.layers)
 -- a book under a layer of a table's limits
 abbrev pub under_limit : Scope → LimitTable → State → State
 under_limit w t s = layered (layer_of w t s.listings) s
+
+-- a book under an agent limit under a member limit
+abbrev pub under_limits : Limits → State → State
+under_limits l s = under_limit Member l.members (under_limit Agents l.agents s)
 
 -- a book without its topmost layer
 abbrev pub uncovered : State → State

@@ -1,2 +1,3 @@
 pub mod Layers
+pub mod Openings
 pub mod Sums

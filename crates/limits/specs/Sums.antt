@@ -1,21 +1,13 @@
 -- What a shift makes of the sums that a layer looks at.
-use Rattle.std.specs.Prelude.{ℕ, Bool, false, cond, ◌||◌, List, [], ◌∷◌, ℤ, pos, ◌+ℤ◌, neg_ℤ, Some, None, Option, ◌==◌, slice_index_or}
-use Rattle.bookkeeping.specs.declared.entry.Account.{Account}
-use Rattle.bookkeeping.specs.declared.entry.Listing.{Listing}
-use Rattle.bookkeeping.specs.declared.entry.Scope.{Scope}
-use Rattle.bookkeeping.specs.declared.entry.Whose.{Whose}
-use Rattle.bookkeeping.specs.declared.shift.Shift.{Shift}
-use Rattle.bookkeeping.specs.Limits.{is_of, held, sum_of, grows}
-use Rattle.bookkeeping.specs.State.{State, Layer, is_listing, listing_place}
-
--- the account of a number
-abbrev pub account_of : ℕ → List Account → Option Account
-account_of a [] = None
-account_of a (x ∷ xs) = cond (x.number == a) (Some x) (account_of a xs)
-
--- the place of a contract that is listed
-abbrev pub place_of : ℕ → List Listing → Option ℕ
-place_of c xs = cond (is_listing c xs) (Some (listing_place c xs)) None
+use Rattle.std.specs.Prelude.{ℕ, Bool, false, cond, ◌||◌, List, ℤ, pos, ◌+ℤ◌, neg_ℤ, Some, None, Option, ◌==◌, slice_index_or}
+use Rattle.std.specs.List.{find}
+use Rattle.books.specs.declared.entry.Account.{Account}
+use Rattle.books.specs.declared.entry.Listing.{Listing}
+use Rattle.books.specs.declared.entry.Scope.{Scope}
+use Rattle.books.specs.declared.entry.Whose.{Whose}
+use Rattle.books.specs.Shifts.{Movement}
+use Rattle.books.specs.Limits.{is_of, held, sum_of, grows}
+use Rattle.books.specs.State.{State, Layer, listing_place}
 
 -- is it an account of the sum?
 abbrev pub is_part : Whose → Option Account → Bool
@@ -24,17 +16,17 @@ is_part w (Some x) = is_of w x
 
 abbrev pub belongs : Whose → Option ℕ → List Account → Bool
 belongs w None xs = false
-belongs w (Some a) xs = is_part w (account_of a xs)
+belongs w (Some a) xs = is_part w (find (λ x. x.number == a) xs)
 
 -- what a shift adds to a sum of its contract
-abbrev pub change : Whose → Shift → List Account → ℤ
+abbrev pub change : Whose → Movement → List Account → ℤ
 change w h xs = cond (belongs w h.to xs) h.amount.quantity (pos 0) +ℤ neg_ℤ (cond (belongs w h.from xs) h.amount.quantity (pos 0))
 
-abbrev pub held_after : State → Whose → Shift → ℤ
+abbrev pub held_after : State → Whose → Movement → ℤ
 held_after s w h = held s w h.contract +ℤ change w h s.accounts
 
 -- does the shift bring the sum of one of its two accounts over the limit?
-abbrev pub over_at : Option ℕ → Scope → State → Shift → Option ℕ → Bool
+abbrev pub over_at : Option ℕ → Scope → State → Movement → Option ℕ → Bool
 over_at limit w s h None = false
 over_at limit w s h (Some a) = grows limit (held s (sum_of w a s.accounts) h.contract) (held_after s (sum_of w a s.accounts) h)
 
@@ -42,5 +34,5 @@ over_at limit w s h (Some a) = grows limit (held s (sum_of w a s.accounts) h.con
 abbrev pub limit_of : Layer → List Listing → ℕ → Option ℕ
 limit_of y xs c = slice_index_or y.limits (listing_place c xs) None
 
-abbrev pub over_by : Layer → State → Shift → Bool
+abbrev pub over_by : Layer → State → Movement → Bool
 over_by y s h = over_at (limit_of y s.listings h.contract) y.scope s h h.from || over_at (limit_of y s.listings h.contract) y.scope s h h.to

@@ -1,31 +1,18 @@
-ghost use Rattle.std.specs.Prelude.{◌≡◌, ◌^◌, ◌≤◌, true, ◌∷◌, is_ok, Some};
-ghost use Rattle.terms.specs.Amounts.{amount_size};
-ghost use Rattle.bookkeeping.specs.Answers.{answer, taken, changed};
-ghost use Rattle.bookkeeping.specs.Limits.{sum_of};
-ghost use Rattle.bookkeeping.specs.Shifts.{entry_for};
-ghost use Rattle.bookkeeping.specs.State.{Follows, is_listing};
+ghost use Rattle.std.specs.Prelude.{◌≡◌, true, ◌∷◌, is_ok, Some};
+ghost use Rattle.books.specs.Answers.{answer, taken, changed};
+ghost use Rattle.books.specs.Limits.{sum_of};
+ghost use Rattle.books.specs.Shifts.{movement_of, entry_for};
+ghost use Rattle.books.specs.State.{Follows, is_listing};
 ghost use Rattle.limits.specs.Layers.{layer_of, under_limit, own_over, with_limit};
 ghost use Rattle.limits.specs.Sums.{limit_of, over_at};
 
-use crate::lookup::{account_of, place_of};
 use crate::scope::{NewLimit, OfAgents, OfMember, Summing, limit_in};
 use crate::sum::change_of;
 use crate::table::LimitTable;
-use bookkeeping::{
-    Account, Book, Call, Cell, Entry, Holdings, Listing, Scope, Shift, Trade, Whose,
+use books::{
+    Account, Book, Call, Cell, Entry, Holdings, Listing, Scope, Shift, Whose, place_of, row_of,
 };
 use terms::Refusal;
-
-// An entry that no call has made.
-const BLANK: Entry = Entry {
-    trade: Trade {
-        account: 0,
-        contract: 0,
-        quantity: 0,
-        price: 0,
-    },
-    stands: false,
-};
 
 // A layer of limits over a book that is lent to it. It is a book itself.
 #[derive(Drop)]
@@ -43,15 +30,16 @@ pub type AgentLimit<'b, B> = ConcentrationLimit<'b, B, OfAgents>;
 
 impl<'b, B: Book, S: Summing> ConcentrationLimit<'b, B, S> {
     // The entry that a call is about.
+    #[tactic(auto, using(crate::proofs::Layering::cancel_entry, crate::proofs::Layering::transfer_entry))]
     fn entry_for(&self, call: Call) -> Entry
         requires { is_ok (answer (B.Book.state self.now.below.now) call) ≡ true }
         ensures { result ≡ entry_for (B.Book.state self.now.below.now) call }
     {
         match call {
             Call::Cancel(number) | Call::Transfer(number, _) => {
-                self.below.entry(number).unwrap_or(BLANK)
+                self.below.entry(number).unwrap_or(Entry::BLANK)
             }
-            Call::Enter(_) | Call::LimitMember(_, _) | Call::LimitAgents(_, _) => BLANK,
+            Call::Enter(_) | Call::LimitMember(_, _) | Call::LimitAgents(_, _) => Entry::BLANK,
         }
     }
 
@@ -59,10 +47,7 @@ impl<'b, B: Book, S: Summing> ConcentrationLimit<'b, B, S> {
     fn limit_of(&self, contract: u16) -> Option<u32>
         ensures { result ≡ limit_of (layer_of S.Summing.scope self.now.table (B.Holdings.holding self.now.below.now).listings) (B.Holdings.holding self.now.below.now).listings contract }
     {
-        let Some(place) = place_of(self.below.listings(), contract) else {
-            return None;
-        };
-        self.table.at(place)
+        self.table.at(place_of(self.below.listings(), contract)?)
     }
 
     // The sum that an account belongs to.
@@ -71,19 +56,18 @@ impl<'b, B: Book, S: Summing> ConcentrationLimit<'b, B, S> {
     {
         match self.summing.scope() {
             Scope::Member => Whose::Everyone,
-            Scope::Agents => match account_of(self.below.accounts(), account) {
-                Some(found) => Whose::Agent(found.agent),
-                None => Whose::Agent(0),
-            },
+            Scope::Agents => {
+                Whose::Agent(row_of(self.below.accounts(), account).map_or(0, |found| found.agent))
+            }
         }
     }
 
     // Whether a shift brings the sum that an account belongs to over a limit, and makes it larger.
     fn is_over(&self, most: u32, shift: Shift, account: Option<u16>) -> bool
-        requires bound { amount_size shift.amount ≤ 2 ^ 62 }
-        requires listed { is_listing shift.contract (B.Book.state self.now.below.now).listings ≡ true }
-        ensures { result ≡ over_at (Some most) S.Summing.scope (B.Book.state self.now.below.now) shift account }
+        requires { is_listing shift.contract (B.Book.state self.now.below.now).listings ≡ true }
+        ensures { result ≡ over_at (Some most) S.Summing.scope (B.Book.state self.now.below.now) (movement_of shift) account }
     {
+        // No `is_some_and`: a closure does not know that the contract is listed, nor how much is held at most.
         let Some(account) = account else {
             return false;
         };
@@ -102,13 +86,14 @@ impl<'b, B: Book, S: Summing> ConcentrationLimit<'b, B, S> {
         ensures { result ≡ own_over (layer_of S.Summing.scope self.now.table (B.Book.state self.now.below.now).listings) (B.Book.state self.now.below.now) (taken (B.Book.state self.now.below.now) call) (changed (B.Book.state self.now.below.now) call) }
     {
         let shift = call.shift(self.entry_for(call));
+        // No `is_some_and`: a closure does not know that what has a limit is listed.
         let Some(most) = self.limit_of(shift.contract) else {
             return false;
         };
         self.is_over(most, shift, shift.from) || self.is_over(most, shift, shift.to)
     }
 
-    // Sets the limit of a contract that is listed.
+    // Sets the limit of a contract that is listed. It says who lent the book, since no field can compare before and after.
     fn set_limit(&mut self, limit: NewLimit)
         ensures layer { layer_of S.Summing.scope self.new.table (B.Holdings.holding self.old.below.now).listings ≡ with_limit (layer_of S.Summing.scope self.old.table (B.Holdings.holding self.old.below.now).listings) (B.Holdings.holding self.old.below.now).listings limit.contract limit.most }
         ensures below { self.new.below.now ≡ self.old.below.now }
@@ -120,6 +105,7 @@ impl<'b, B: Book, S: Summing> ConcentrationLimit<'b, B, S> {
     }
 }
 
+// What a layer does not decide it asks the book below, a call each: a trait's functions have no shorter form.
 impl<'b, B: Book, S: Summing> Holdings for ConcentrationLimit<'b, B, S> {
     ghost holding = { λ s. B.Holdings.holding s.below.now };
 
@@ -154,6 +140,7 @@ impl<'b, B: Book, S: Summing> Book for ConcentrationLimit<'b, B, S> {
     }
 
     // The book below is asked first.
+    #[tactic(auto, using(crate::proofs::Layering::follows_layered))]
     fn may(&self, call: Call) -> Result<u16, Refusal> {
         let number = self.below.may(call)?;
         if self.exceeds(call) {

@@ -3,7 +3,7 @@
 
 mod driving;
 mod layer;
-mod lookup;
+mod limiting;
 mod scope;
 mod sum;
 mod table;
@@ -11,4 +11,4 @@ mod table;
 pub use driving::{drive_under_limit, drive_under_limits};
 pub use layer::{AgentLimit, ConcentrationLimit, MemberLimit};
 pub use scope::{OfAgents, OfMember, Summing};
-pub use table::LimitTable;
+pub use table::{LimitTable, Limits};

@@ -1,9 +1,9 @@
 ghost use Rattle.std.specs.Prelude.{◌≡◌};
-ghost use Rattle.bookkeeping.specs.declared.entry.Scope.{Scope};
-ghost use Rattle.bookkeeping.specs.declared.entry.Scope.TheVariants.{Member, Agents};
+ghost use Rattle.books.specs.declared.entry.Scope.{Scope};
+ghost use Rattle.books.specs.declared.entry.Scope.TheVariants.{Member, Agents};
 ghost use Rattle.limits.specs.Layers.{limit_in};
 
-use bookkeeping::{Call, Scope};
+use books::{Call, Scope};
 
 // What a concentration limit sums up, as a type.
 pub trait Summing: Copy {
@@ -14,7 +14,7 @@ pub trait Summing: Copy {
 }
 
 // The net positions of all accounts.
-#[derive(Clone, Copy)]
+#[derive(Clone, Copy, PartialEq, Eq, Debug)]
 pub struct OfMember;
 
 impl Summing for OfMember {
@@ -26,7 +26,7 @@ impl Summing for OfMember {
 }
 
 // The net positions of each agent's accounts.
-#[derive(Clone, Copy)]
+#[derive(Clone, Copy, PartialEq, Eq, Debug)]
 pub struct OfAgents;
 
 impl Summing for OfAgents {
@@ -38,7 +38,7 @@ impl Summing for OfAgents {
 }
 
 // A limit that a call sets.
-#[derive(Clone, Copy)]
+#[derive(Clone, Copy, PartialEq, Eq, Debug)]
 pub struct NewLimit {
     pub contract: u16,
     pub most: u32,
@@ -48,14 +48,9 @@ pub struct NewLimit {
 pub fn limit_in(scope: Scope, call: Call) -> Option<NewLimit>
     ensures { result ≡ limit_in scope call }
 {
-    match scope {
-        Scope::Member => match call {
-            Call::LimitMember(contract, most) => Some(NewLimit { contract, most }),
-            _ => None,
-        },
-        Scope::Agents => match call {
-            Call::LimitAgents(contract, most) => Some(NewLimit { contract, most }),
-            _ => None,
-        },
+    match (scope, call) {
+        (Scope::Member, Call::LimitMember(contract, most))
+        | (Scope::Agents, Call::LimitAgents(contract, most)) => Some(NewLimit { contract, most }),
+        _ => None,
     }
 }

@@ -21,19 +21,22 @@ impl LimitTable {
     pub fn at(&self, place: usize) -> Option<u32>
         ensures { result ≡ slice_index_or self.now.limits.items place None }
     {
-        if place < self.limits.len() {
-            self.limits[place]
-        } else {
-            None
-        }
+        self.limits.get(place).copied().flatten()
     }
 
     // Sets the limit of the contract at a place. Past the end there is no record, and nothing changes.
     pub fn set(&mut self, place: usize, most: u32)
         ensures { self.new.limits.items ≡ slice_set self.old.limits.items place (Some most) }
     {
-        if place < self.limits.len() {
-            self.limits[place] = Some(most);
+        if let Some(limit) = self.limits.get_mut(place) {
+            *limit = Some(most);
         }
     }
+}
+
+// Limits on the sum of all accounts, and on the sum of each agent's.
+#[derive(Drop)]
+pub struct Limits {
+    pub members: LimitTable,
+    pub agents: LimitTable,
 }

@@ -1,18 +1,17 @@
 -- Tables with one row more keep the rules.
-use Rattle.std.proofs.Common.{◌≡◌, ℕ, suc, ◌<◌, Bool, true, false, cond, not, ◌&&◌, ◌||◌, eqb, leb, List, [], ◌∷◌, ◌++◌, length, get_or, take, is_some, Some, None, Ok, Err, Option, sym, refl, ap, ◌∙◌, inl, inr, arith}
-use mathlib.Core.Bool.{or-false, or_assoc}
+use Rattle.std.proofs.Common.{◌≡◌, ℕ, suc, ◌<◌, Bool, true, false, cond, not, ◌&&◌, ◌||◌, eqb, leb, List, [], ◌∷◌, ◌++◌, length, get_or, take, is_some, Some, None, is_ok, Ok, Err, Option, Result, unwrap_or, sym, refl, ap, ◌∙◌, subst, inl, inr, arith}
 use Rattle.std.proofs.lemmas.List.{take-append-le, take_at, get_or_append_left, get_or_push, length_push}
-use Rattle.std.proofs.lemmas.Bool.{cases_lt, cases_Bool, not-false, not-true, not_from_true, not_from_false, cond-true, cond-false, and_from, and_parts, or_from, or_parts, or_left, or_right, eqb-true, eqb-false, eq-eqb, ne_eqb, false≢true, both_ways, leb-false}
+use Rattle.std.proofs.lemmas.Bool.{cases_lt, cases_Bool, not-false, not-true, not_from_true, not_from_false, cond-true, cond-false, and_from, and_parts, or_from, or_parts, or_left, eqb-true, eqb-false, eq-eqb, ne_eqb, false≢true, both_ways, leb-false}
 use Rattle.terms.specs.Amounts.{no_amount}
 use Rattle.terms.specs.declared.refusal.Refusal.{Refusal}
 use Rattle.terms.specs.declared.refusal.Refusal.TheVariants.{RepeatedKey, TooLong}
-use Rattle.bookkeeping.specs.State.{is_account, is_listing, are_apart}
-use Rattle.bookkeeping.specs.declared.entry.Account.{Account}
-use Rattle.bookkeeping.specs.declared.entry.Listing.{Listing}
-use Rattle.opening.specs.Rows.{is_of, is_opened, amount_in}
+use Rattle.books.specs.State.{is_account, is_listing, are_apart}
+use Rattle.books.specs.declared.entry.Account.{Account}
+use Rattle.books.specs.declared.entry.Listing.{Listing}
+use Rattle.opening.specs.Rows.{is_of, is_opened, amount_in, opened_in}
 use Rattle.opening.specs.Rules.{lowest, row_within, suits_type, is_known, opening_refusal, place_by, Kept}
 use Rattle.opening.specs.declared.rows.Opened.{Opened}
-use Rattle.opening.proofs.Numbered.{accounts, is_push}
+use Rattle.books.proofs.Rows.{accounts, is_push}
 
 -- ---- a chain of refusals
 pub lowest_none : (a b c d : Bool) → is_some (lowest a b c d) ≡ false → (a ≡ false) × (b ≡ false) × (c ≡ false) × (d ≡ false)
@@ -28,8 +27,19 @@ none_lowest a b c d p q r s = rw (p, q, r, s)
 pub again_lowest : (a b c d : Bool) → a ≡ false → b ≡ false → c ≡ true → lowest a b c d ≡ Some RepeatedKey
 again_lowest a b c d p q r = rw (p, q, r)
 
-pub full_lowest : (a b c d : Bool) → a ≡ false → b ≡ false → c ≡ false → d ≡ true → lowest a b c d ≡ Some TooLong
-full_lowest a b c d p q r s = rw (p, q, r, s)
+-- what has no refusal but for want of room
+pub room_lowest : (a b c d : Bool) → lowest a b c false ≡ None → lowest a b c d ≡ cond d (Some TooLong) None
+room_lowest true b c d h = absurd (let z : ◌≡◌ {A = ℕ} 0 1 = cc in omega arith)
+room_lowest false true c d h = absurd (let z : ◌≡◌ {A = ℕ} 0 1 = cc in omega arith)
+room_lowest false false true d h = absurd (let z : ◌≡◌ {A = ℕ} 0 1 = cc in omega arith)
+room_lowest false false false d h = refl
+
+-- and the refusals before it
+pub rest_lowest : (a b c d : Bool) (e : Refusal) → lowest a b c false ≡ Some e → lowest a b c d ≡ Some e
+rest_lowest true b c d e h = h
+rest_lowest false true c d e h = h
+rest_lowest false false true d e h = h
+rest_lowest false false false d e h = absurd (let z : ◌≡◌ {A = ℕ} 0 1 = cc in omega arith)
 
 pub place_by_ok : (i place : ℕ) (o : Option Refusal) → Ok i ≡ place_by place o → (i ≡ place) × (o ≡ None)
 place_by_ok i place None e = (cc, refl)
@@ -54,6 +64,14 @@ kept_more refusal xs x kept h k d l = elim (cases_lt k (length xs)) [
       let at : length xs ≡ k = omega arith in
       rw (take_at xs (x ∷ []) k at, get_or_push xs x d k at) h)
 ]
+
+-- a row that was added, or found no room
+pub pushed : {X : Type 0} (P : List X → Type 0) (most : ℕ) (xs ys : List X) (x : X) (r : Result (Unit {0}) Refusal) → r ≡ cond (leb most (length xs)) (Err TooLong) (Ok tt) → ys ≡ cond (is_ok r) (xs ++ x ∷ []) xs → P xs → (leb most (length xs) ≡ false → P (xs ++ x ∷ [])) → P ys
+pushed P most xs ys x r answer rows same more = by (leb most (length xs)) refl
+  where
+    by : (b : Bool) → leb most (length xs) ≡ b → P ys
+    by true e = subst P (sym (rows ∙ ap (λ (q : Result (Unit {0}) Refusal). cond (is_ok q) (xs ++ x ∷ []) xs) (answer ∙ ap (λ b. cond b (Err TooLong) (Ok tt)) e))) same
+    by false e = subst P (sym (rows ∙ ap (λ (q : Result (Unit {0}) Refusal). cond (is_ok q) (xs ++ x ∷ []) xs) (answer ∙ ap (λ b. cond b (Err TooLong) (Ok tt)) e))) (more e)
 
 -- ---- one account more
 pub apart_more : (xs : List Account) (x : Account) → are_apart xs ≡ true → is_account x.number xs ≡ false → are_apart (xs ++ x ∷ []) ≡ true
@@ -117,31 +135,38 @@ unopened_by xs (r ∷ rs) a c h f = elim (cases_Bool (is_of a c r)) [
 pub unopened : (xs : List Account) (ls : List Listing) (rs : List Opened) (a c : ℕ) → Kept (opening_refusal xs ls) rs → is_account a xs ≡ false → is_opened rs a c ≡ false
 unopened xs ls rs a c kept = unopened_by xs rs a c (λ k d l. (sound_at xs ls rs kept k d l).account)
 
-pub none_opened : (rs : List Opened) (a c : ℕ) → is_opened rs a c ≡ false → amount_in rs a c ≡ no_amount
+-- the amount and the mark of a row, as one
+pub amount_opened : (rs : List Opened) (a c : ℕ) → unwrap_or (opened_in rs a c) no_amount ≡ amount_in rs a c
+amount_opened [] a c = refl
+amount_opened (r ∷ rs) a c = here (is_of a c r) (amount_opened rs a c)
+  where
+    here : (b : Bool) → unwrap_or (opened_in rs a c) no_amount ≡ amount_in rs a c → unwrap_or (cond b (Some r.amount) (opened_in rs a c)) no_amount ≡ cond b r.amount (amount_in rs a c)
+    here true e = refl
+    here false e = e
+
+pub is_some_opened : (rs : List Opened) (a c : ℕ) → is_some (opened_in rs a c) ≡ is_opened rs a c
+is_some_opened [] a c = refl
+is_some_opened (r ∷ rs) a c = here (is_of a c r) (is_some_opened rs a c)
+  where
+    here : (b : Bool) → is_some (opened_in rs a c) ≡ is_opened rs a c → is_some (cond b (Some r.amount) (opened_in rs a c)) ≡ b || is_opened rs a c
+    here true e = refl
+    here false e = e
+
+pub none_opened : (rs : List Opened) (a c : ℕ) → is_opened rs a c ≡ false → opened_in rs a c ≡ None
 none_opened [] a c h = refl
 none_opened (r ∷ rs) a c h =
     let p = or_parts (is_of a c r) (is_opened rs a c) h in
-    cond-false (is_of a c r) r.amount (amount_in rs a c) p.0 ∙ none_opened rs a c p.1
+    cond-false (is_of a c r) (Some r.amount) (opened_in rs a c) p.0 ∙ none_opened rs a c p.1
 
-opened_push : (rs : List Opened) (r : Opened) (a c : ℕ) → is_opened (rs ++ r ∷ []) a c ≡ (is_opened rs a c || is_of a c r)
-opened_push [] r a c = or-false (is_of a c r)
-opened_push (q ∷ rs) r a c = ap (λ b. is_of a c q || b) (opened_push rs r a c) ∙ sym (or_assoc (is_of a c q) _ _)
+opened_push : (rs : List Opened) (r : Opened) (a c : ℕ) → is_of a c r ≡ false → opened_in (rs ++ r ∷ []) a c ≡ opened_in rs a c
+opened_push [] r a c h = cond-false (is_of a c r) (Some r.amount) None h
+opened_push (q ∷ rs) r a c h = ap (λ x. cond (is_of a c q) (Some q.amount) x) (opened_push rs r a c h)
 
-pub opened_new : (rs : List Opened) (r : Opened) → is_opened (rs ++ r ∷ []) r.account r.contract ≡ true
-opened_new rs r = opened_push rs r r.account r.contract ∙ or_right _ _ (own r)
+pub opened_other : (rs : List Opened) (r : Opened) (a c : ℕ) → (a ≡ r.account → c ≡ r.contract → ⊥) → opened_in (rs ++ r ∷ []) a c ≡ opened_in rs a c
+opened_other rs r a c ne = opened_push rs r a c (other r a c ne)
 
-pub opened_other : (rs : List Opened) (r : Opened) (a c : ℕ) → (a ≡ r.account → c ≡ r.contract → ⊥) → is_opened (rs ++ r ∷ []) a c ≡ is_opened rs a c
-opened_other rs r a c ne = opened_push rs r a c ∙ ap (λ b. is_opened rs a c || b) (other r a c ne) ∙ or-false (is_opened rs a c)
-
-amount_push : (rs : List Opened) (r : Opened) (a c : ℕ) → is_of a c r ≡ false → amount_in (rs ++ r ∷ []) a c ≡ amount_in rs a c
-amount_push [] r a c h = cond-false (is_of a c r) r.amount no_amount h
-amount_push (q ∷ rs) r a c h = ap (λ x. cond (is_of a c q) q.amount x) (amount_push rs r a c h)
-
-pub amount_other : (rs : List Opened) (r : Opened) (a c : ℕ) → (a ≡ r.account → c ≡ r.contract → ⊥) → amount_in (rs ++ r ∷ []) a c ≡ amount_in rs a c
-amount_other rs r a c ne = amount_push rs r a c (other r a c ne)
-
-pub amount_new : (rs : List Opened) (r : Opened) → is_opened rs r.account r.contract ≡ false → amount_in (rs ++ r ∷ []) r.account r.contract ≡ r.amount
-amount_new [] r h = cond-true _ _ _ (own r)
-amount_new (q ∷ rs) r h =
+pub opened_new : (rs : List Opened) (r : Opened) → is_opened rs r.account r.contract ≡ false → opened_in (rs ++ r ∷ []) r.account r.contract ≡ Some r.amount
+opened_new [] r h = cond-true _ _ _ (own r)
+opened_new (q ∷ rs) r h =
     let p = or_parts (is_of r.account r.contract q) (is_opened rs r.account r.contract) h in
-    cond-false _ _ _ p.0 ∙ amount_new rs r p.1
+    cond-false _ _ _ p.0 ∙ opened_new rs r p.1

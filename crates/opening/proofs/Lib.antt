@@ -1,4 +1,3 @@
-pub mod Numbered
 pub mod Keeping
 pub mod Placing
 pub mod Listed

@@ -1,22 +1,22 @@
 -- What stands at the places of accounts and contracts, with one account or one row more.
-use Rattle.std.proofs.Common.{◌≡◌, ℕ, suc, ◌+◌, ◌*◌, ◌/◌, ◌%◌, ◌<◌, ◌≤◌, true, false, not, ◌||◌, eqb, List, [], ◌∷◌, ◌++◌, length, get_or, set, replicate, sym, refl, ap, ◌∙◌, subst, ap₂, inl, inr, arith}
+use Rattle.std.proofs.Common.{◌≡◌, ℕ, suc, ◌+◌, ◌*◌, ◌/◌, ◌%◌, ◌<◌, ◌≤◌, true, false, not, ◌||◌, eqb, List, [], ◌∷◌, ◌++◌, length, get_or, set, replicate, None, Option, unwrap_or, sym, refl, ap, ◌∙◌, subst, ap₂, inl, inr, arith}
 use Rattle.std.proofs.lemmas.Nat.{mul-le, mul-add-lt, div-mul-add, mod-mul-add}
 use Rattle.std.proofs.lemmas.List.{get_or_past, get_or-replicate, length-replicate, get_or-set_same, get_or-set_other}
 use Rattle.std.proofs.lemmas.Bool.{cases_Bool, cases_lt, cases_eq, cond-true, cond-false, and_parts, or_cases, not_from_true, eqb-true, both_ways, false≢true}
 use Rattle.terms.specs.Amounts.{no_amount}
 use Rattle.terms.specs.declared.amounts.Amount.{Amount}
 use Rattle.contracts.specs.declared.kind.Kind.{Kind}
-use Rattle.contracts.specs.declared.kind.Kind.TheVariants.{Future, Forward, Swap, Option}
-use Rattle.bookkeeping.specs.Cells.{opens_within}
-use Rattle.bookkeeping.specs.State.{is_account, is_listing, account_place, listing_place, kind_of}
-use Rattle.bookkeeping.specs.declared.entry.Account.{Account}
-use Rattle.bookkeeping.specs.declared.entry.Listing.{Listing}
+use Rattle.contracts.specs.declared.kind.Kind.TheVariants as kind
+use Rattle.books.specs.Cells.{opens_within}
+use Rattle.books.specs.State.{is_account, is_listing, account_place, listing_place, kind_of}
+use Rattle.books.specs.declared.entry.Account.{Account}
+use Rattle.books.specs.declared.entry.Listing.{Listing}
 use Rattle.opening.specs.Places.{place_of, Known, ByPlace, BlankFrom, AllWithin}
-use Rattle.opening.specs.Rows.{is_of, amount_in}
+use Rattle.opening.specs.Rows.{is_of, amount_in, opened_in}
 use Rattle.opening.specs.Rules.{suits_type, opening_refusal, Kept}
 use Rattle.opening.specs.declared.rows.Opened.{Opened}
-use Rattle.opening.proofs.Keeping.{sound_at}
-use Rattle.opening.proofs.Numbered.{accounts, listings, is_push, place_push, place_new, place_under, same_number}
+use Rattle.opening.proofs.Keeping.{sound_at, amount_opened}
+use Rattle.books.proofs.Rows.{accounts, listings, is_push, place_push, place_new, place_under, same_number}
 
 -- ---- places
 pub place_low : (xs : List Account) (ls : List Listing) (n a c : ℕ) → n ≡ length ls → Known xs ls a c → place_of xs ls n a c < length xs * n
@@ -77,10 +77,10 @@ blank_set i p ys d y h blank k l = get_or-set_other ys p k y d (omega arith) ∙
 
 -- ---- the amounts keep to their types
 none_within : (k : Kind) → opens_within k no_amount ≡ true
-none_within Future = refl
-none_within Forward = refl
-none_within Swap = refl
-none_within Option = refl
+none_within kind.Future = refl
+none_within kind.Forward = refl
+none_within kind.Swap = refl
+none_within kind.Option = refl
 
 amount_within : (ls : List Listing) (rs : List Opened) (a c : ℕ) → is_listing c ls ≡ true → ((k : ℕ) (d : Opened) → k < length rs → suits_type ls (get_or rs k d) ≡ true) → opens_within (kind_of c ls) (amount_in rs a c) ≡ true
 amount_within ls [] a c h each = none_within (kind_of c ls)
@@ -93,5 +93,5 @@ amount_within ls (r ∷ rs) a c h each = elim (cases_Bool (is_of a c r)) [
   | inr n ↦ ap (opens_within (kind_of c ls)) (cond-false (is_of a c r) r.amount (amount_in rs a c) n) ∙ amount_within ls rs a c h (λ k d l. each (suc k) d (omega arith))
 ]
 
-pub all_within : (xs : List Account) (ls : List Listing) (n : ℕ) (ys : List Amount) (rs : List Opened) → ByPlace xs ls n ys no_amount (amount_in rs) → Kept (opening_refusal xs ls) rs → AllWithin xs ls n ys
-all_within xs ls n ys rs told kept a c k = ap (opens_within (kind_of c ls)) (told a c k) ∙ amount_within ls rs a c k.1 (λ i d l. (sound_at xs ls rs kept i d l).suits)
+pub all_within : (xs : List Account) (ls : List Listing) (n : ℕ) (ys : List (Option Amount)) (rs : List Opened) → ByPlace xs ls n ys None (opened_in rs) → Kept (opening_refusal xs ls) rs → AllWithin xs ls n ys
+all_within xs ls n ys rs told kept a c k = ap (opens_within (kind_of c ls)) (ap (λ x. unwrap_or x no_amount) (told a c k) ∙ amount_opened rs a c) ∙ amount_within ls rs a c k.1 (λ i d l. (sound_at xs ls rs kept i d l).suits)

@@ -1,11 +1,12 @@
 -- What stands at the places of accounts and contracts. A row of places, n of them, is an account's.
-use Rattle.std.specs.Prelude.{◌≡◌, ℕ, ◌+◌, ◌*◌, ◌≤◌, true, List, slice_index_or}
+use Rattle.std.specs.Prelude.{◌≡◌, ℕ, ◌+◌, ◌*◌, ◌≤◌, true, List, None, Option, slice_index_or}
+use Rattle.std.specs.Option.{unwrap_or}
 use Rattle.terms.specs.Amounts.{no_amount}
 use Rattle.terms.specs.declared.amounts.Amount.{Amount}
-use Rattle.bookkeeping.specs.Cells.{opens_within}
-use Rattle.bookkeeping.specs.State.{is_account, is_listing, account_place, listing_place, kind_of}
-use Rattle.bookkeeping.specs.declared.entry.Account.{Account}
-use Rattle.bookkeeping.specs.declared.entry.Listing.{Listing}
+use Rattle.books.specs.Cells.{opens_within}
+use Rattle.books.specs.State.{is_account, is_listing, account_place, listing_place, kind_of}
+use Rattle.books.specs.declared.entry.Account.{Account}
+use Rattle.books.specs.declared.entry.Listing.{Listing}
 
 -- the place of account a in contract c
 abbrev pub place_of : List Account → List Listing → ℕ → ℕ → ℕ → ℕ
@@ -23,5 +24,5 @@ abbrev pub BlankFrom : {X : Type 0} → ℕ → List X → X → Type 0
 BlankFrom i ys d = (k : ℕ) → i ≤ k → slice_index_or ys k d ≡ d
 
 -- amounts keep to the types of their contracts
-abbrev pub AllWithin : List Account → List Listing → ℕ → List Amount → Type 0
-AllWithin xs ls n ys = (a c : ℕ) → Known xs ls a c → opens_within (kind_of c ls) (slice_index_or ys (place_of xs ls n a c) no_amount) ≡ true
+abbrev pub AllWithin : List Account → List Listing → ℕ → List (Option Amount) → Type 0
+AllWithin xs ls n ys = (a c : ℕ) → Known xs ls a c → opens_within (kind_of c ls) (unwrap_or (slice_index_or ys (place_of xs ls n a c) None) no_amount) ≡ true

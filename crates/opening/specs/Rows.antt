@@ -1,5 +1,5 @@
 -- Opening positions and limits, by the numbers of accounts and contracts.
-use Rattle.std.specs.Prelude.{ℕ, Bool, false, cond, ◌&&◌, ◌||◌, List, [], ◌∷◌, ◌==◌}
+use Rattle.std.specs.Prelude.{ℕ, Bool, false, cond, ◌&&◌, ◌||◌, List, [], ◌∷◌, Some, None, Option, ◌==◌}
 use Rattle.terms.specs.Amounts.{no_amount}
 use Rattle.terms.specs.declared.amounts.Amount.{Amount}
 use Rattle.opening.specs.declared.rows.Limit.{Limit}
@@ -18,6 +18,11 @@ is_opened (r ∷ rs) a c = is_of a c r || is_opened rs a c
 abbrev pub amount_in : List Opened → ℕ → ℕ → Amount
 amount_in [] a c = no_amount
 amount_in (r ∷ rs) a c = cond (is_of a c r) r.amount (amount_in rs a c)
+
+-- the same, with no amount where there is no row
+abbrev pub opened_in : List Opened → ℕ → ℕ → Option Amount
+opened_in [] a c = None
+opened_in (r ∷ rs) a c = cond (is_of a c r) (Some r.amount) (opened_in rs a c)
 
 -- has contract c limits?
 abbrev pub is_limited : ℕ → List Limit → Bool

@@ -4,10 +4,10 @@ use Rattle.terms.specs.Ranges.{holds_in}
 use Rattle.terms.specs.declared.bounds.Bounds.TheVariants as range
 use Rattle.terms.specs.declared.refusal.Refusal.{Refusal}
 use Rattle.terms.specs.declared.refusal.Refusal.TheVariants.{OutOfRange, UnknownReference, RepeatedKey, TooLong}
-use Rattle.bookkeeping.specs.Cells.{opens_within}
-use Rattle.bookkeeping.specs.State.{is_account, is_listing, kind_of}
-use Rattle.bookkeeping.specs.declared.entry.Account.{Account}
-use Rattle.bookkeeping.specs.declared.entry.Listing.{Listing}
+use Rattle.books.specs.Cells.{opens_within}
+use Rattle.books.specs.State.{is_account, is_listing, kind_of}
+use Rattle.books.specs.declared.entry.Account.{Account}
+use Rattle.books.specs.declared.entry.Listing.{Listing}
 use Rattle.opening.specs.Rows.{is_opened, is_limited}
 use Rattle.opening.specs.declared.rows.Limit.{Limit}
 use Rattle.opening.specs.declared.rows.Opened.{Opened}
@@ -40,6 +40,10 @@ is_known xs ls r = is_account r.account xs && is_listing r.contract ls
 
 abbrev pub opening_refusal : List Account → List Listing → List Opened → Opened → Option Refusal
 opening_refusal xs ls rs r = lowest (not (row_within r && suits_type ls r)) (not (is_known xs ls r)) (is_opened rs r.account r.contract) (nat_le 4096 (length rs))
+
+-- the same, whatever the room
+abbrev pub row_refusal : List Account → List Listing → List Opened → Opened → Option Refusal
+row_refusal xs ls rs r = lowest (not (row_within r && suits_type ls r)) (not (is_known xs ls r)) (is_opened rs r.account r.contract) false
 
 -- the place of a row that may be added
 abbrev pub place_by : ℕ → Option Refusal → Result ℕ Refusal

@@ -6,8 +6,8 @@ use Rattle.std.specs.Option.{unwrap_or}
 use Rattle.days.specs.declared.day.Day.{Day}
 use Rattle.contracts.specs.Table.{Instr, Listed, Table, kind_in}
 use Rattle.contracts.specs.declared.kind.Kind.TheVariants as kind
-use Rattle.bookkeeping.specs.declared.entry.Account.{Account}
-use Rattle.bookkeeping.specs.declared.entry.Listing.{Listing}
+use Rattle.books.specs.declared.entry.Account.{Account}
+use Rattle.books.specs.declared.entry.Listing.{Listing}
 use Rattle.opening.specs.declared.opening.Opening.{Opening}
 use Rattle.opening.specs.declared.rows.Limit.{Limit}
 use Rattle.opening.specs.declared.rows.Opened.{Opened}
@@ -32,7 +32,7 @@ pub record Said : Type 0 where
   pub limits : List Limit
 
 abbrev pub opening_of : Opening → Said
-opening_of o = record { date = o.date.number; listings = vec_items o.listings; accounts = vec_items o.accounts; rows = vec_items o.rows; limits = vec_items o.limits }
+opening_of o = record { date = o.date.number; listings = vec_items o.listings; accounts = vec_items o.accounts.rows; rows = vec_items o.rows.rows; limits = vec_items o.limits.rows }
 
 -- nothing but the contracts of a table
 abbrev pub opened_on : Table → Said

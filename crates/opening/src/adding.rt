@@ -1,13 +1,13 @@
 ghost use Rattle.std.specs.Prelude.{◌≡◌, is_ok, if◌then◌else◌, Some, None, vec_len};
 ghost use Rattle.contracts.specs.Rules.{answer_by};
-ghost use Rattle.bookkeeping.specs.State.{is_listing, listing_place};
-ghost use Rattle.opening.specs.Rules.{account_refusal, opening_refusal, limit_refusal, suits_type, place_by};
+ghost use Rattle.books.specs.State.{is_listing, listing_place};
+ghost use Rattle.opening.specs.Rules.{account_refusal, opening_refusal, limit_refusal, row_refusal, suits_type, place_by};
 ghost use Rattle.opening.specs.Places.{place_of};
 ghost use Rattle.opening.specs.Views.{opening_of, plus_account, plus_row, plus_limit};
 
 use crate::opening::Opening;
-use crate::rows::{Limit, MOST_ACCOUNTS, MOST_LIMITS, MOST_ROWS, Opened};
-use bookkeeping::Account;
+use crate::rows::{Limit, Opened};
+use books::Account;
 use terms::{Bounds, Refusal};
 
 impl Opening {
@@ -24,11 +24,7 @@ impl Opening {
         if self.place_of_account(account.number).is_some() {
             return Err(Refusal::RepeatedKey);
         }
-        if self.accounts.len() >= MOST_ACCOUNTS {
-            return Err(Refusal::TooLong);
-        }
-        self.accounts.push_reserved(account);
-        Ok(())
+        self.accounts.push(account)
     }
 
     // Adds an opening position at the end, or refuses it and leaves all as it was.
@@ -37,32 +33,26 @@ impl Opening {
         ensures said { opening_of self.new ≡ (if is_ok result then plus_row (opening_of self.old) row else opening_of self.old) }
     {
         let place = self.place_for(row)?;
-        self.rows.push_reserved(row);
-        self.amounts[place] = row.amount;
-        self.filled[place] = true;
+        self.rows.push(row)?;
+        self.amounts[place] = Some(row.amount);
         Ok(())
     }
 
-    // The place of an opening position that may be added.
+    // The place of an opening position that may be added where there is room.
     fn place_for(&self, row: Opened) -> Result<usize, Refusal>
-        ensures { result ≡ place_by (place_of self.now.accounts.items self.now.listings.items (vec_len self.now.listings) row.account row.contract) (opening_refusal self.now.accounts.items self.now.listings.items self.now.rows.items row) }
+        ensures { result ≡ place_by (place_of self.now.accounts.rows.items self.now.listings.items (vec_len self.now.listings) row.account row.contract) (row_refusal self.now.accounts.rows.items self.now.listings.items self.now.rows.rows.items row) }
     {
         let contract = self.place_of_listing(row.contract);
         if !row.is_within() || !self.suits_type(contract, row) {
             return Err(Refusal::OutOfRange);
         }
-        let Some(contract) = contract else {
-            return Err(Refusal::UnknownReference);
-        };
-        let Some(account) = self.place_of_account(row.account) else {
-            return Err(Refusal::UnknownReference);
-        };
+        let contract = contract.ok_or(Refusal::UnknownReference)?;
+        let account = self
+            .place_of_account(row.account)
+            .ok_or(Refusal::UnknownReference)?;
         let place = account * self.listings.len() + contract;
-        if self.filled[place] {
+        if self.amounts[place].is_some() {
             return Err(Refusal::RepeatedKey);
-        }
-        if self.rows.len() >= MOST_ROWS {
-            return Err(Refusal::TooLong);
         }
         Ok(place)
     }
@@ -72,6 +62,7 @@ impl Opening {
         requires { place ≡ (if is_listing row.contract self.now.listings.items then Some (listing_place row.contract self.now.listings.items) else None) }
         ensures { result ≡ suits_type self.now.listings.items row }
     {
+        // A `match`: at `is_none_or` the check does not see what the closure's index and call give.
         match place {
             Some(place) => self.listings[place].admits(row.amount),
             None => true,
@@ -92,10 +83,6 @@ impl Opening {
         if self.is_limited(limit.contract) {
             return Err(Refusal::RepeatedKey);
         }
-        if self.limits.len() >= MOST_LIMITS {
-            return Err(Refusal::TooLong);
-        }
-        self.limits.push_reserved(limit);
-        Ok(())
+        self.limits.push(limit)
     }
 }

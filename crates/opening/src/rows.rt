@@ -11,7 +11,7 @@ pub const MOST_ROWS: usize = 4_096;
 pub const MOST_LIMITS: usize = 128;
 
 // What an account opens with in a contract, by their numbers.
-#[derive(Clone, Copy)]
+#[derive(Clone, Copy, PartialEq, Eq, Debug)]
 pub struct Opened {
     pub account: u16,
     pub contract: u16,
@@ -31,7 +31,7 @@ impl Opened {
 }
 
 // A contract's limits: on the sum of all accounts, and on the sum of each agent's.
-#[derive(Clone, Copy)]
+#[derive(Clone, Copy, PartialEq, Eq, Debug)]
 pub struct Limit {
     pub contract: u16,
     pub member: u32,
@@ -39,7 +39,7 @@ pub struct Limit {
 }
 
 impl Limit {
-    // Whether the numbers are in their ranges.
+    // Whether the numbers are in their ranges: other fields and ranges than an opening position's, so no shared text.
     pub fn is_within(self) -> bool
         ensures { result ≡ limit_within self }
     {

@@ -1,13 +1,14 @@
 ghost use Rattle.std.specs.Prelude.{◌≡◌, IfOk};
+ghost use Rattle.contracts.specs.Rows.{listed};
 ghost use Rattle.contracts.specs.Views.{table_of};
-ghost use Rattle.opening.specs.Views.{opening_of, opened_on, listings_of};
+ghost use Rattle.opening.specs.Views.{opening_of, opened_on, listing_of, listings_of};
 
 use crate::opening::Opening;
-use crate::rows::{MOST_ACCOUNTS, MOST_LIMITS, MOST_ROWS};
-use bookkeeping::Listing;
-use contracts::{ContractTable, Kind};
+use crate::rows::MOST_ACCOUNTS;
+use books::Listing;
+use contracts::{Contract, ContractTable, Kind};
 use std::alloc::{AllocError, Global};
-use terms::Amount;
+use terms::Rows;
 
 impl Opening {
     // An opening over the contracts of a table, with no account, row or limit yet. All room is made here: what is added
@@ -16,24 +17,14 @@ impl Opening {
         ensures { IfOk result (λ o. opening_of o ≡ opened_on (table_of table.now)) }
     {
         let listings = listings_of(heap, table)?;
-        let places = MOST_ACCOUNTS * listings.len();
-        let accounts = Vec::with_capacity(heap, MOST_ACCOUNTS)?;
-        let rows = Vec::with_capacity(heap, MOST_ROWS)?;
-        let limits = Vec::with_capacity(heap, MOST_LIMITS)?;
-        let nothing = Amount {
-            quantity: 0,
-            value: 0,
-        };
-        let amounts = vec![in heap; nothing; places]?;
-        let filled = vec![in heap; false; places]?;
+        let amounts = vec![in heap; None; MOST_ACCOUNTS * listings.len()]?;
         Ok(Opening {
             date: table.date,
             listings,
-            accounts,
-            rows,
-            limits,
+            accounts: Rows::new(heap)?,
+            rows: Rows::new(heap)?,
+            limits: Rows::new(heap)?,
             amounts,
-            filled,
         })
     }
 }
@@ -42,14 +33,22 @@ impl Opening {
 fn listings_of<P: Drop>(heap: Global, table: &ContractTable<P>) -> Result<Vec<Listing>, AllocError>
     ensures { IfOk result (λ v. v.items ≡ listings_of (table_of table.now)) }
 {
-    let mut listings = Vec::with_capacity(heap, table.contracts.len())?;
-    for contract in table.contracts.iter() {
-        let kind = table.kind_of(contract.terms.instrument);
-        listings.push_reserved(Listing {
-            number: contract.terms.number,
-            kind: kind.unwrap_or(Kind::Option),
-            registration: contract.terms.registration,
-        });
+    table
+        .contracts
+        .rows
+        .iter()
+        .map(|contract| listing_of(table, *contract))
+        .collect(heap)
+}
+
+// A contract of a table, with the type of its instrument.
+fn listing_of<P: Drop>(table: &ContractTable<P>, contract: Contract) -> Listing
+    ensures { result ≡ listing_of (table_of table.now).instruments (listed contract) }
+{
+    let kind = table.kind_of(contract.terms.instrument);
+    Listing {
+        number: contract.terms.number,
+        kind: kind.unwrap_or(Kind::Option),
+        registration: contract.terms.registration,
     }
-    Ok(listings)
 }

@@ -1,11 +1,11 @@
 use Rattle.std.proofs.Common.{List, refl, ap, ◌∙◌}
-use Rattle.bookkeeping.specs.State.{State}
-use Rattle.bookkeeping.specs.declared.entry.Account.{Account}
+use Rattle.books.specs.State.{State}
+use Rattle.books.specs.declared.entry.Account.{Account}
 use Rattle.ledger.specs.Views.{nobody}
 use Rattle.desk.specs.Rows.{rows_in, rows_by}
 use Rattle.desk.specs.declared.row.Row.{Row}
-use Rattle.desk.proofs.Joining.{joined_at, joined_end}
-use Rattle.desk.proofs.Listed.{account_in}
+use Rattle.books.proofs.Joining.{joined_at, joined_end}
+use Rattle.books.proofs.Rows.{accounts, is_of_list}
 use Rattle.desk.proofs.cells.rows_of.Goals as goal
 
 abbrev rows_for : State → Account → List Row
@@ -15,7 +15,7 @@ pub add_rows-requires : goal.add_rows-requires
 add_rows-requires g c =
     record {
       follows = c.entries.ensures.follows;
-      account = account_in _ _ c.loop-account.account-index nobody _ (c.accounts-account-items.ensures ∙ c.entries.ensures.follows.accounts) c.loop-account-test.true refl;
+      account = is_of_list accounts _ _ c.loop-account.account-index nobody _ (c.accounts-account-items.ensures ∙ c.entries.ensures.follows.accounts) c.loop-account-test.true refl;
     }
 
 pub loop-account-preserved : goal.loop-account-preserved

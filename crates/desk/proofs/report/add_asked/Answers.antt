@@ -4,9 +4,9 @@ use Rattle.std.specs.List.{zip}
 use Rattle.std.specs.Slice.Iter.{iter_rest}
 use Rattle.std.specs.Iterator.Adapters.{zip_first, zip_second}
 use Rattle.terms.specs.declared.refusal.Refusal.{Refusal}
-use Rattle.bookkeeping.specs.declared.entry.Call.{Call}
+use Rattle.books.specs.declared.entry.Call.{Call}
 use Rattle.desk.specs.Texts.{line, asked_text, asked_lines}
-use Rattle.desk.proofs.Joining.{joined_next, joined_last}
+use Rattle.books.proofs.Joining.{joined_next, joined_last}
 use Rattle.desk.proofs.report.add_asked.Goals as goal
 
 abbrev line_of : Call × Result ℕ Refusal → List ℕ
@@ -23,7 +23,7 @@ pub loop-call-preserved : goal.loop-call-preserved
 loop-call-preserved c =
     joined_next line_of _ _ (pairs_rest c.loop-call.call-iterator) (pairs_rest c.next.new.self) (c.in-Some.call.now, c.in-Some.answer.now) _ c.loop-call.invariant
     (pairs_rest_more c.loop-call.call-iterator c.next.new.self _ _ c.in-Some.is c.next.ensures.steps)
-    c.in_ok-add_call.ensures
+    c.in_ok-writeln.ensures.bytes
 
 pub returns : goal.returns
 returns c = joined_last line_of _ _ (pairs_rest c.loop-call.call-iterator) c.loop-call.invariant (pairs_rest_all c.loop-call.call-iterator c.next.new.self _ c.in-None.is c.next.ensures.steps)

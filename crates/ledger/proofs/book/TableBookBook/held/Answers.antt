@@ -1,8 +1,6 @@
 use Rattle.std.proofs.Common.{◌∙◌}
-use Rattle.ledger.proofs.OfBook.{follows_of, held_of}
+use Rattle.ledger.proofs.OfBook.{held_of}
 use Rattle.ledger.proofs.book.TableBookBook.held.Goals as goal
 
-pub returns : goal.returns
-returns c =
-    let b = c.args.self.now in
-    record { value = c.held.ensures.value ∙ held_of b c.args.whose c.args.contract; bound = c.held.ensures.bound; follows = follows_of b }
+pub returns-clause-value : goal.returns-clause-value
+returns-clause-value c = c.held.ensures.value ∙ held_of c.args.self.now c.args.whose c.args.contract

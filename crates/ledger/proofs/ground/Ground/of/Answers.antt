@@ -1,57 +1,63 @@
-use Rattle.std.proofs.Common.{◌≡◌, ℕ, ◌+◌, ◌*◌, List, get_or, replicate, vec_items, vec_len, sym, refl, ap, ◌∙◌, subst, ap₂, arith}
+use Rattle.std.proofs.Common.{◌≡◌, ◌+◌, ◌*◌, List, map, length, get_or, None, unwrap_or, vec_items, sym, refl, ap, ◌∙◌, subst, ap₂, arith}
+use Rattle.std.proofs.lemmas.List.{length-map}
 use Rattle.terms.specs.Amounts.{no_amount}
-use Rattle.terms.specs.declared.amounts.Amount.{Amount}
-use Rattle.bookkeeping.specs.State.{are_apart, is_account, is_listing, account_place, listing_place}
-use Rattle.bookkeeping.specs.declared.entry.Account.{Account}
-use Rattle.bookkeeping.specs.declared.entry.Listing.{Listing}
-use Rattle.ledger.specs.Places.{amount_at, CellsWithin}
-use Rattle.ledger.proofs.Untraded.{all_blank, untraded_within}
+use Rattle.books.specs.State.{are_apart, is_account, is_listing, account_place, listing_place}
+use Rattle.books.specs.declared.entry.Account.{Account}
+use Rattle.books.specs.declared.entry.Cell.{Cell}
+use Rattle.books.specs.declared.entry.Listing.{Listing}
+use Rattle.opening.proofs.Keeping.{amount_opened}
+use Rattle.ledger.specs.Places.{place_of, openings, amount_at, CellsWithin}
+use Rattle.ledger.specs.Starts.{untraded}
+use Rattle.ledger.specs.Tied.{Untraded}
+use Rattle.ledger.proofs.Untraded.{openings_of, trades_of, untraded_within}
 use Rattle.ledger.proofs.ground.Ground.of.Goals as goal
 
 pub invariant_of-tables : goal.invariant_of-tables
 invariant_of-tables c =
     let o = c.args.opening.now in
-    let a = c.in_ok-accounts.ensures in
-    let l = c.in_ok-listings.ensures in
-    let m = c.in_ok-amounts.ensures in
-    let t = c.in_ok-traded.ensures in
-    let accounts : vec_items c.in_ok-accounts.accounts ≡ vec_items o.accounts = a.items ∙ c.deref.ensures.value in
-    let listings : vec_items c.in_ok-listings.listings ≡ vec_items o.listings = l.items ∙ c.deref-2.ensures.value in
-    let amounts : vec_items c.in_ok-amounts.amounts ≡ vec_items o.amounts = m.items ∙ c.deref-3.ensures.value in
-    let traded : vec_items c.in_ok-traded.traded ≡ replicate c.len.result no_amount = t.items_if_clones_equal (λ y e. e) in
-    let within : CellsWithin (vec_items c.in_ok-accounts.accounts) (vec_items c.in_ok-listings.listings) (vec_items c.in_ok-amounts.amounts) (vec_items c.in_ok-traded.traded) =
-    subst (λ (xs : List Account). CellsWithin xs (vec_items c.in_ok-listings.listings) (vec_items c.in_ok-amounts.amounts) (vec_items c.in_ok-traded.traded)) (sym accounts)
-    (subst (λ (cs : List Listing). CellsWithin (vec_items o.accounts) cs (vec_items c.in_ok-amounts.amounts) (vec_items c.in_ok-traded.traded)) (sym listings)
-    (subst (λ (os : List Amount). CellsWithin (vec_items o.accounts) (vec_items o.listings) os (vec_items c.in_ok-traded.traded)) (sym amounts)
-    (subst (λ (ts : List Amount). CellsWithin (vec_items o.accounts) (vec_items o.listings) (vec_items o.amounts) ts) (sym traded) (untraded_within o c.len.result)))) in
-    let n : vec_len c.in_ok-listings.listings ≡ vec_len o.listings = l.len ∙ c.deref-2.ensures.len in
-    let k : vec_len c.in_ok-accounts.accounts ≡ vec_len o.accounts = a.len ∙ c.deref.ensures.len in
-    let p : vec_len c.in_ok-amounts.amounts ≡ vec_len o.amounts = m.len ∙ c.deref-3.ensures.len in
-    let q : vec_len c.in_ok-traded.traded ≡ vec_len o.amounts = t.len ∙ c.len.ensures in
-    record { few = omega (arith, k, o.accounts_few); narrow = omega (arith, n, o.listings_few); opened = omega (arith, n, p, o.amounts_long); sized = omega (arith, n, q, o.amounts_long); apart = ap are_apart accounts ∙ o.apart; within = within }
+    let xs = c.in_ok-from_slice.field-0 in
+    let cs = c.in_ok-from_slice-2.field-0 in
+    let ys = c.in_ok-untraded.field-0 in
+    let accounts : vec_items xs ≡ vec_items o.accounts.rows = c.in_ok-from_slice.ensures.items ∙ c.deref.ensures.value in
+    let listings : vec_items cs ≡ vec_items o.listings = c.in_ok-from_slice-2.ensures.items ∙ c.deref-2.ensures.value in
+    let cells : vec_items ys ≡ map untraded (vec_items o.amounts) = c.in_ok-untraded.ensures ∙ ap (map untraded) c.deref-3.ensures.value in
+    let within : CellsWithin (vec_items xs) (vec_items cs) (vec_items ys) =
+    subst (λ (as' : List Account). CellsWithin as' (vec_items cs) (vec_items ys)) (sym accounts)
+    (subst (λ (ls : List Listing). CellsWithin (vec_items o.accounts.rows) ls (vec_items ys)) (sym listings)
+    (subst (CellsWithin (vec_items o.accounts.rows) (vec_items o.listings)) (sym cells) (untraded_within o))) in
+    let long = ap length cells ∙ length-map (vec_items o.amounts) untraded in
+    let wide = ap length listings in
+    record {
+      few = omega (arith, xs.ok.0, ap length accounts, o.accounts.rows.ok.0, o.accounts.few);
+      narrow = omega (arith, cs.ok.0, wide, o.listings.ok.0, o.listings_few);
+      sized = omega (arith, ys.ok.0, long, o.amounts.ok.0, o.amounts_long, cs.ok.0, wide, o.listings.ok.0);
+      apart = ap are_apart accounts ∙ o.apart;
+      within = within;
+    }
 
 pub invariant_of-result : goal.invariant_of-result
 invariant_of-result c =
-    let traded : vec_items c.in_ok-traded.traded ≡ replicate c.len.result no_amount = c.in_ok-traded.ensures.items_if_clones_equal (λ y e. e) in
-    let none : (i : ℕ) → get_or (vec_items c.in_ok-traded.traded) i no_amount ≡ no_amount = λ i. ap (λ (ts : List Amount). get_or ts i no_amount) traded ∙ all_blank c.len.result i no_amount in
-    record { quantities = (λ i. ap (λ (x : Amount). x.quantity) (none i)); values = (λ i. ap (λ (x : Amount). x.value) (none i)) }
+    let o = c.args.opening.now in
+    let cells : vec_items c.in_ok-untraded.field-0 ≡ map untraded (vec_items o.amounts) = c.in_ok-untraded.ensures ∙ ap (map untraded) c.deref-3.ensures.value in
+    record { untraded = subst Untraded (sym cells) (trades_of (vec_items o.amounts)) }
 
 pub returns : goal.returns
 returns c =
     let o = c.args.opening.now in
-    let accounts : vec_items c.in_ok-accounts.accounts ≡ vec_items o.accounts = c.in_ok-accounts.ensures.items ∙ c.deref.ensures.value in
-    let listings : vec_items c.in_ok-listings.listings ≡ vec_items o.listings = c.in_ok-listings.ensures.items ∙ c.deref-2.ensures.value in
-    let amounts : vec_items c.in_ok-amounts.amounts ≡ vec_items o.amounts = c.in_ok-amounts.ensures.items ∙ c.deref-3.ensures.value in
-    let l = o.listings.ok.0 in
+    let accounts : vec_items c.in_ok-from_slice.field-0 ≡ vec_items o.accounts.rows = c.in_ok-from_slice.ensures.items ∙ c.deref.ensures.value in
+    let listings : vec_items c.in_ok-from_slice-2.field-0 ≡ vec_items o.listings = c.in_ok-from_slice-2.ensures.items ∙ c.deref-2.ensures.value in
+    let cells : vec_items c.in_ok-untraded.field-0 ≡ map untraded (vec_items o.amounts) = c.in_ok-untraded.ensures ∙ ap (map untraded) c.deref-3.ensures.value in
     record {
       date = refl;
       accounts = accounts;
       listings = listings;
       opening = λ a k h i.
-          ap₂ (λ (xs : List Account) (cs : List Listing). amount_at xs cs (vec_items c.in_ok-amounts.amounts) a k) accounts listings
-          ∙ ap (λ (os : List Amount). amount_at (vec_items o.accounts) (vec_items o.listings) os a k) amounts
-          ∙ sym (ap (λ m. get_or (vec_items o.amounts) (account_place a (vec_items o.accounts) * m + listing_place k (vec_items o.listings)) no_amount) l)
-          ∙ o.told a k (sym (ap (is_account a) accounts) ∙ h, sym (ap (is_listing k) listings) ∙ i);
+          ap₂ (λ (xs : List Account) (cs : List Listing). amount_at xs cs (openings (vec_items c.in_ok-untraded.field-0)) a k) accounts listings
+          ∙ ap (λ (ys : List Cell). amount_at (vec_items o.accounts.rows) (vec_items o.listings) (openings ys) a k) cells
+          ∙ openings_of (vec_items o.amounts) (place_of (vec_items o.accounts.rows) (vec_items o.listings) a k)
+          ∙ sym (ap (λ m. unwrap_or (get_or (vec_items o.amounts) (account_place a (vec_items o.accounts.rows) * m + listing_place k (vec_items o.listings)) None) no_amount) o.listings.ok.0)
+          ∙ ap (λ x. unwrap_or x no_amount) (o.told a k (sym (ap (is_account a) accounts) ∙ h, sym (ap (is_listing k) listings) ∙ i))
+          ∙ amount_opened (vec_items o.rows.rows) a k;
       journal = refl;
       layers = refl;
     }

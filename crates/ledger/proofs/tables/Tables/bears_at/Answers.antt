@@ -1,24 +1,30 @@
-use Rattle.std.proofs.Common.{◌+◌, ◌^◌, ◌≤◌, nat_abs, vec_items, sym, ap, ◌∙◌, subst, arith}
-use Rattle.terms.specs.Amounts.{amount_size, amount_plus}
-use Rattle.terms.specs.declared.amounts.Amount.{Amount}
-use Rattle.ledger.specs.Places.{place_of}
-use Rattle.ledger.specs.Views.{is_in, traded}
-use Rattle.ledger.proofs.Places.{is_there}
-use Rattle.ledger.proofs.Ranges.{plus_size}
-use Rattle.ledger.proofs.AtPlace.{read_opening, read_traded, sizes_in}
+use Rattle.std.proofs.Common.{◌≡◌, Bool, true, false, cond, Ok, Err, Result, MatchResult, IfOk, vec_items, ap, ◌∙◌, subst, rules}
+use Rattle.terms.specs.Amounts.{amount_plus}
+use Rattle.terms.specs.declared.refusal.Refusal.{Refusal}
+use Rattle.terms.specs.declared.refusal.Refusal.TheVariants.{NotInBook}
+use Rattle.books.specs.Cells.{trades_within}
+use Rattle.books.specs.State.{kind_of, cell_within}
+use Rattle.books.specs.declared.entry.Cell.{Cell}
+use Rattle.ledger.specs.Views.{is_in, holding_of}
+use Rattle.ledger.proofs.Ranges.{cell_sizes}
 use Rattle.ledger.proofs.tables.Tables.bears_at.Goals as goal
 
-pub is_within-requires : goal.is_within-requires
-is_within-requires c =
+pub is_ok_and-requires : goal.is_ok_and-requires
+is_ok_and-requires c = λ x is _ _ _ _ _. (
+    let k = kind_of c.args.posting.contract (vec_items c.args.self.now.listings) in
+    let s = cell_sizes k x (subst (λ (r : Result Cell Refusal). IfOk r (λ y. cell_within k y ≡ true)) is c.cell-cell.ensures.range) in
+    (s.opening, s.traded))
+
+-- what was asked of a cell, where it is shown
+asked : (b : Bool) (y : Cell) (r : Result Cell Refusal) (q : Bool) (g : Cell → Bool) {P : Cell → Type 0} → r ≡ cond b (Ok y) (Err NotInBook) → MatchResult r P (λ _. q ≡ false) → ((x : Cell) → P x → q ≡ g x) → q ≡ cond b (g y) false
+asked true y (Ok x) q g e h f = f x h ∙ ap g cc
+asked false y (Ok x) q g e h f = absurd cc
+asked true y (Err i) q g e h f = absurd cc
+asked false y (Err i) q g e h f = h
+
+pub returns : goal.returns
+returns c =
     let t = c.args.self.now in
     let a = c.args.account in
-    let k = c.args.contract in
-    let there = is_there (is_in t a k) (place_of (vec_items t.accounts) (vec_items t.listings) a k) c.in-Some.at c.in-Some.ensures.value in
-    let low = c.in-Some.ensures.bound in
-    let s = sizes_in t a k there.0 in
-    let o = read_opening t a k c.in-Some.at there.1 low c.index.result.now c.index.ensures in
-    let x = read_traded t a k c.in-Some.at there.1 low c.index-in-Some.result.now c.index-in-Some.ensures in
-    let small : amount_size c.plus.result ≤ 2 ^ 62 + 2 ^ 60 =
-    subst (λ (y : Amount). amount_size y ≤ 2 ^ 62 + 2 ^ 60) (sym (c.plus.ensures ∙ ap (λ (y : Amount). amount_plus y c.args.by) x))
-    (omega (arith, plus_size (traded t a k) c.args.by, s.traded, c.requires)) in
-    record { opening = subst (λ (y : Amount). nat_abs y.quantity ≤ 10000) (sym o) s.opening; traded = small }
+    let k = c.args.posting.contract in
+    asked (is_in t a k) ((holding_of t).cell a k) c.cell-cell.result c.is_ok_and.result (λ (x : Cell). trades_within x.opening (amount_plus x.traded c.args.posting.amount)) c.cell-cell.ensures.value c.is_ok_and.ensures (λ x h. search rules)

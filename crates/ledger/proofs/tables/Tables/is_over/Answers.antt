@@ -1,21 +1,19 @@
-use Rattle.std.proofs.Common.{ltb, get_or, vec_items, sym, ap, ◌∙◌}
-use Rattle.bookkeeping.specs.State.{is_listing, listing_place}
-use Rattle.bookkeeping.specs.declared.entry.Listing.{Listing}
-use Rattle.ledger.proofs.Places.{is_there, not_there, over_at_is, over_none}
+use Rattle.std.proofs.Common.{◌≡◌, Bool, false, ltb, Some, None, Option, MatchOption, unwrap_or, vec_items, sym, ap, ◌∙◌, rules}
+use Rattle.std.specs.List.{find}
+use Rattle.std.specs.Option.{option_map}
+use Rattle.books.specs.declared.entry.Listing.{Listing}
+use Rattle.books.proofs.Rows.{listings, has, over_told}
 use Rattle.ledger.proofs.tables.Tables.is_over.Goals as goal
 
-pub returns-in-Some : goal.returns-in-Some
-returns-in-Some c =
-    let t = c.args.self.now in
-    let cs = vec_items t.listings in
-    let d = c.args.contract in
-    let x = c.index.result.now in
-    let there = is_there (is_listing d cs) (listing_place d cs) c.in-Some.column c.in-Some.ensures.value in
-    sym (over_at_is t.date.number d cs x there.0 ∙ ap (λ (y : Listing). ltb y.registration.number t.date.number) (ap (λ i. get_or cs i x) (sym there.1) ∙ sym c.index.ensures))
+-- an answer of the row, or false where there is none
+told : {X : Type 0} {P : X → Type 0} (o : Option X) (g : X → Bool) (r : Bool) → MatchOption o (r ≡ false) P → ((x : X) → P x → r ≡ g x) → r ≡ unwrap_or (option_map g o) false
+told None g r h f = h
+told (Some x) g r h f = f x h
 
-pub returns-in-None : goal.returns-in-None
-returns-in-None c =
+pub returns : goal.returns
+returns c =
     let t = c.args.self.now in
-    let cs = vec_items t.listings in
-    let d = c.args.contract in
-    sym (over_none t.date.number d cs (not_there (is_listing d cs) (listing_place d cs) c.in-None.ensures.value))
+    let over = λ (x : Listing). ltb x.registration.number t.date.number in
+    told c.row_of.result over c.is_some_and.result c.is_some_and.ensures (λ x h. search rules)
+    ∙ ap (λ (o : Option Listing). unwrap_or (option_map over o) false) (c.row_of.ensures ∙ ap (find (has listings c.args.contract)) c.deref.ensures.value)
+    ∙ sym (over_told t.date.number c.args.contract (vec_items t.listings))

@@ -1,23 +1,22 @@
-use Rattle.std.proofs.Common.{◌≡◌, ℕ, List, Option, sym, ap, ◌∙◌}
-use Rattle.bookkeeping.specs.declared.entry.Account.{Account}
-use Rattle.bookkeeping.specs.declared.entry.Scope.{Scope}
-use Rattle.bookkeeping.specs.declared.entry.Scope.TheVariants.{Agents}
-use Rattle.bookkeeping.specs.declared.entry.Whose.TheVariants.{Agent}
-use Rattle.bookkeeping.specs.Limits.{sum_of}
-use Rattle.limits.specs.Sums.{account_of}
-use Rattle.limits.proofs.Places.{agent_in, agent_of_account}
+use Rattle.std.proofs.Common.{◌≡◌, ℕ, eqb, Some, None, Option, unwrap_or, sym, ap, ◌∙◌, MatchOption, rules}
+use Rattle.std.specs.List.{find}
+use Rattle.std.specs.Option.{option_map}
+use Rattle.books.specs.declared.entry.Account.{Account}
+use Rattle.books.specs.declared.entry.Scope.{Scope}
+use Rattle.books.specs.declared.entry.Whose.TheVariants.{Agent}
+use Rattle.books.specs.Limits.{sum_of}
+use Rattle.books.proofs.Rows.{agent_told}
 use Rattle.limits.proofs.layer.ConcentrationLimit.sum_of.Goals as goal
 
--- the agent that was found is that of the account
-by_agent : (w : Scope) (a : ℕ) (xs ys : List Account) (o r : Option Account) → w ≡ Agents → ys ≡ xs → o ≡ account_of a ys → o ≡ r → Agent (agent_in r) ≡ sum_of w a xs
-by_agent w a xs ys o r scope same found is =
-    ap (λ (x : Option Account). Agent (agent_in x)) (sym is ∙ found)
-    ∙ ap (λ (l : List Account). Agent (agent_in (account_of a l))) same
-    ∙ ap Agent (sym (agent_of_account a xs))
-    ∙ ap (λ (v : Scope). sum_of v a xs) (sym scope)
+-- the agent of the account that was found, or 0
+agent_or : (o : Option Account) (n : ℕ) (Q : Account → Type 0) → ((x : Account) → Q x → n ≡ x.agent) → MatchOption o (n ≡ 0) Q → n ≡ unwrap_or (option_map (λ x. x.agent) o) 0
+agent_or None n Q f h = h
+agent_or (Some x) n Q f h = f x h
 
-pub returns-in-Some : goal.returns-in-Some
-returns-in-Some g c = by_agent _ c.args.account _ c.accounts.result.now c.account_of.result _ (sym c.in-Agents.ensures) c.accounts.ensures c.account_of.ensures c.in-Some.is
-
-pub returns-in-None : goal.returns-in-None
-returns-in-None g c = by_agent _ c.args.account _ c.accounts.result.now c.account_of.result _ (sym c.in-Agents.ensures) c.accounts.ensures c.account_of.ensures c.in-None.is
+pub returns-in-Agents : goal.returns-in-Agents
+returns-in-Agents g c =
+    let a = c.args.account in
+    let xs = (g.B.Holdings.holding c.args.self.now.below.now).accounts in
+    let found = agent_or c.row_of.result c.map_or.result _ (λ x k. search rules) c.map_or.ensures in
+    ap Agent (found ∙ ap (λ (o : Option Account). unwrap_or (option_map (λ x. x.agent) o) 0) (c.row_of.ensures ∙ ap (find (λ x. eqb x.number a)) c.accounts.ensures) ∙ sym (agent_told a xs))
+    ∙ ap (λ (w : Scope). sum_of w a xs) c.in-Agents.ensures

@@ -1,8 +1,8 @@
 use Rattle.std.proofs.Common.{◌≡◌, not, ◌||◌, get_or, vec_items, sym, ap, ◌∙◌, arith}
-use Rattle.bookkeeping.specs.Cells.{opens_within}
-use Rattle.bookkeeping.specs.State.{kind_of}
-use Rattle.bookkeeping.specs.declared.entry.Listing.{Listing}
-use Rattle.opening.proofs.Numbered.{listings, found_some, place_under, kind_at}
+use Rattle.books.specs.Cells.{opens_within}
+use Rattle.books.specs.State.{kind_of}
+use Rattle.books.specs.declared.entry.Listing.{Listing}
+use Rattle.books.proofs.Rows.{listings, found_some, place_under, kind_at}
 use Rattle.opening.proofs.opening.Opening.suits_type.Goals as goal
 
 pub index-requires : goal.index-requires
