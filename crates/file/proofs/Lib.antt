@@ -5,3 +5,4 @@ pub mod OfDraft
 pub mod Rows
 pub mod Wholes
 pub mod Law
+mod Steps

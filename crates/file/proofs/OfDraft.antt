@@ -14,8 +14,8 @@ none_mapped f [] e = refl
 none_mapped f (x ∷ xs) e = absurd (let z : ◌≡◌ {A = ℕ} 0 1 = cc in omega arith)
 
 -- a draft without instruments
-pub no_instruments : (d : Draft Load) (t : Table) (s : Said) → draft_of d ≡ (t, s) → t.instruments ≡ [] → vec_items d.contracts.instruments ≡ []
-no_instruments d t s e h = none_mapped instr (vec_items d.contracts.instruments) (ap (λ (p : Table × Said). p.0.instruments) e ∙ h)
+pub no_instruments : (d : Draft Load) (t : Table) (s : Said) → draft_of d ≡ (t, s) → t.instruments ≡ [] → vec_items d.contracts.instruments.rows ≡ []
+no_instruments d t s e h = none_mapped instr (vec_items d.contracts.instruments.rows) (ap (λ (p : Table × Said). p.0.instruments) e ∙ h)
 
 -- a view with the tariff of a draft
 pub tariff_alike : (v : View) (is js : List (Instrument Load)) (p q : Table × Said) → is ≡ js → p ≡ q → with_tariff v is p ≡ with_tariff v js q

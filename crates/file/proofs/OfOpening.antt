@@ -1,7 +1,7 @@
 -- An opening over the contracts of a table has nothing else.
 use Rattle.std.proofs.Common.{◌≡◌, List, [], vec_items, ap, ◌∙◌, ap₂}
 use Rattle.contracts.specs.Table.{Table}
-use Rattle.bookkeeping.specs.declared.entry.Account.{Account}
+use Rattle.books.specs.declared.entry.Account.{Account}
 use Rattle.opening.specs.Views.{Said, opening_of, opened_on, listings_of}
 use Rattle.opening.specs.declared.opening.Opening.{Opening}
 use Rattle.opening.specs.declared.rows.Limit.{Limit}
@@ -9,13 +9,13 @@ use Rattle.opening.specs.declared.rows.Opened.{Opened}
 use Rattle.file.specs.View.{View, with_opening}
 
 module _ (o : Opening) (t : Table) (e : opening_of o ≡ opened_on t) where
-  pub no_accounts : vec_items o.accounts ≡ []
+  pub no_accounts : vec_items o.accounts.rows ≡ []
   no_accounts = ap (λ (s : Said). s.accounts) e
 
-  pub rows_empty : vec_items o.rows ≡ []
+  pub rows_empty : vec_items o.rows.rows ≡ []
   rows_empty = ap (λ (s : Said). s.rows) e
 
-  pub no_limits : vec_items o.limits ≡ []
+  pub no_limits : vec_items o.limits.rows ≡ []
   no_limits = ap (λ (s : Said). s.limits) e
 
   pub over_table : vec_items o.listings ≡ listings_of t

@@ -125,6 +125,3 @@ module _ {V : Type 0} (says : V → List Piece → Result V Refusal) (k m n : �
 
   pub body_stops : (q : Fault) → line_at (says v) n bs ≡ Err q → Err q ≡ s
   body_stops q h = sym (ap (λ (r : Result (V × List ℕ) Fault). r then λ p. body_of says m (n + 1) p.0 p.1) h) ∙ front
-
-pub body_none : {V : Type 0} (says : V → List Piece → Result V Refusal) (k n : ℕ) (v : V) (bs : List ℕ) → k ≡ 0 → body_of says k n v bs ≡ Ok (v, bs)
-body_none says k n v bs e = ap (λ j. body_of says j n v bs) e

@@ -1,5 +1,5 @@
 -- The title and the contents lines.
-use Rattle.std.specs.Prelude.{ℕ, ◌+◌, Bool, true, false, cond, List, ℤ, pos, Ok, Err, Result, ◌==◌, int_lt, unsigned_abs}
+use Rattle.std.specs.Prelude.{ℕ, Bool, true, false, cond, List, ℤ, pos, Ok, Err, Result, ◌==◌, int_lt, unsigned_abs}
 use Rattle.terms.specs.declared.refusal.Refusal.{Refusal}
 use Rattle.terms.specs.declared.refusal.Refusal.TheVariants.{Form, OutOfRange, TooLong}
 use Rattle.text.specs.Chain.{◌then◌}
@@ -54,7 +54,3 @@ counts_of bs =
     line_at (count_of Credits) 10 k.1 then λ x.
     line_at (count_of Calls) 11 x.1 then λ e.
     Ok (record { instruments = i.0; contracts = c.0; accounts = a.0; openings = o.0; limits = l.0; risks = r.0; ranges = k.0; credits = x.0; calls = e.0 }, e.1)
-
--- all lines of the bodies but the head's
-abbrev pub all_of : Counts → ℕ
-all_of n = n.instruments + n.contracts + n.accounts + n.openings + n.limits + n.risks + n.ranges + n.credits + n.calls

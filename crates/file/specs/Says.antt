@@ -12,15 +12,16 @@ use Rattle.contracts.specs.Table.{Listed}
 use Rattle.contracts.specs.Views.{plus_instrument, plus_contract}
 use Rattle.text.specs.Chain.{◌then◌}
 use Rattle.text.specs.Fields.{Piece}
-use Rattle.bookkeeping.specs.Answers.{out_of_range}
-use Rattle.bookkeeping.specs.declared.entry.Account.{Account}
-use Rattle.bookkeeping.specs.declared.entry.Call.{Call}
+use Rattle.books.specs.Answers.{out_of_range}
+use Rattle.books.specs.declared.entry.Account.{Account}
+use Rattle.books.specs.declared.entry.Call.{Call}
 use Rattle.opening.specs.Rules.{account_refusal, opening_refusal, limit_refusal}
 use Rattle.opening.specs.Views.{listings_of}
 use Rattle.opening.specs.declared.rows.Limit.{Limit}
 use Rattle.opening.specs.declared.rows.Opened.{Opened}
 use Rattle.tariff.specs.Rules.{spot_refusal, prices_refusal, risk_refusal, range_refusal, credit_refusal, named}
 use Rattle.tariff.specs.Said.{Ranged}
+use Rattle.tariff.specs.Settlements.{is_final}
 use Rattle.tariff.specs.Views.{no_rows, plus_spot, plus_prices, plus_risk, plus_range, plus_credit}
 use Rattle.tariff.specs.declared.rows.Credit.{Credit}
 use Rattle.tariff.specs.declared.rows.Prices.{Prices}
@@ -43,7 +44,7 @@ head_days ps =
     head_form ps then λ f.
     day_of f.date then λ date.
     day_of f.horizon then λ horizon.
-    Ok (date, horizon, f.settled)
+    Ok (date, horizon, is_final f.settlement)
 
 abbrev pub head_says : View → List Piece → Result View Refusal
 head_says v ps =

@@ -4,8 +4,8 @@ use Rattle.calendar.specs.declared.load.Load.{Load}
 use Rattle.contracts.specs.Table.{Table}
 use Rattle.contracts.specs.Views.{empty_table}
 use Rattle.contracts.specs.declared.contract.Instrument.{Instrument}
-use Rattle.bookkeeping.specs.declared.entry.Account.{Account}
-use Rattle.bookkeeping.specs.declared.entry.Call.{Call}
+use Rattle.books.specs.declared.entry.Account.{Account}
+use Rattle.books.specs.declared.entry.Call.{Call}
 use Rattle.opening.specs.declared.rows.Limit.{Limit}
 use Rattle.opening.specs.declared.rows.Opened.{Opened}
 use Rattle.tariff.specs.Said.{Said}

@@ -39,15 +39,13 @@ at_end n v [] = Ok v
 at_end n v (b ∷ bs) = at n (Err Form)
 
 -- ---- what the code gives
-abbrev pub rest_in : Result (Bor (List ℕ)) Fault → Result (List ℕ) Fault
-rest_in (Ok x) = Ok x.now
-rest_in (Err q) = Err q
+-- the next line, and what is left behind it; or that it is not there
+abbrev pub Texts : ℕ → List ℕ → List ℕ → Result (Bor (List ℕ)) Fault → Type 0
+Texts n bs rest (Ok text) = line_of bs ≡ Some (text.now, rest)
+Texts n bs rest (Err q) = (line_of bs ≡ None) × (q ≡ record { refusal = Form; line = n })
 
--- the fields of line n, and what follows it; or that it is not there
-abbrev pub Next : ℕ → List ℕ → List Piece → Result (Bor (List ℕ)) Unread → Type 0
-Next n bs ps (Ok rest) = (text : List ℕ) × (line_of bs ≡ Some (text, rest.now)) × (fields_of text ≡ ps)
-Next n bs ps (Err (Refused q)) = (line_of bs ≡ None) × (q ≡ record { refusal = Form; line = n })
-Next n bs ps (Err NoMemory) = Unit {0}
-
-abbrev pub pair_in : {X : Type 0} → X × Bor (List ℕ) → X × List ℕ
-pair_in p = (p.0, p.1.now)
+-- the number of the next line, its fields, and what is left behind it; or that it is not there
+abbrev pub Next : ℕ → List ℕ → List ℕ → List Piece → Result ℕ Unread → Type 0
+Next n bs rest ps (Ok line) = (line ≡ n) × ((text : List ℕ) × (line_of bs ≡ Some (text, rest)) × (fields_of text ≡ ps))
+Next n bs rest ps (Err (Refused q)) = (line_of bs ≡ None) × (q ≡ record { refusal = Form; line = n })
+Next n bs rest ps (Err NoMemory) = Unit {0}

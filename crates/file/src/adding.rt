@@ -1,82 +1,117 @@
 ghost use Rattle.std.specs.Prelude.{◌≡◌, map};
 ghost use Rattle.text.specs.Fields.{see};
-ghost use Rattle.file.specs.Meaning.{view_of, ListedAll, Added};
-ghost use Rattle.file.specs.Says.{instrument_says, account_says, opening_says, limit_says, risk_says, range_says, credit_says};
+ghost use Rattle.file.specs.Meaning.{view_of, draft_view};
+ghost use Rattle.file.specs.Says.{instrument_says, account_says, opening_says, limit_says, risk_says, range_says, credit_says, call_says};
 
+use crate::body::Row;
 use crate::reading::Reading;
+use books::{Account, Call};
+use calendar::Load;
 use forms::{
-    InstrumentRow, account_form, credit_form, instrument_form, limit_form, opening_form,
-    range_form, risk_form,
+    InstrumentRow, RiskRow, account_form, call_form, credit_form, instrument_form, limit_form,
+    opening_form, range_form, risk_form,
 };
+use opening::{Limit, Opened};
+use tariff::{Credit, Draft, GroupRange};
 use terms::Refusal;
 use text::Field;
 
 // Each takes the row that the fields of a line say, or refuses it.
-impl Reading {
-    pub(crate) fn add_instrument(&mut self, fields: &[Field]) -> Result<(), Refusal>
-        ensures added { Added (instrument_says (view_of self.old) (map see fields.now)) result (view_of self.new) }
-        ensures opening { self.new.opening ≡ self.old.opening }
-    {
+
+impl Row for InstrumentRow {
+    type Table = Draft<Load>;
+
+    ghost view = { draft_view };
+
+    ghost says = { instrument_says };
+
+    fn add(draft: &mut Draft<Load>, fields: &[Field]) -> Result<(), Refusal> {
         let InstrumentRow { instrument, spot } = instrument_form(fields)?;
-        self.draft.add_instrument(instrument, spot)
+        draft.add_instrument(instrument, spot)
     }
+}
 
-    pub(crate) fn add_account(&mut self, fields: &[Field]) -> Result<(), Refusal>
-        ensures added { Added (account_says (view_of self.old) (map see fields.now)) result (view_of self.new) }
-        ensures listings { self.new.opening.listings.items ≡ self.old.opening.listings.items }
-        ensures date { self.new.opening.date.number ≡ self.old.opening.date.number }
-        ensures draft { self.new.draft ≡ self.old.draft }
-    {
-        let account = account_form(fields)?;
-        self.opening.add_account(account)
+impl Row for Account {
+    type Table = Reading;
+
+    ghost view = { view_of };
+
+    ghost says = { account_says };
+
+    fn add(reading: &mut Reading, fields: &[Field]) -> Result<(), Refusal> {
+        reading.opening.add_account(account_form(fields)?)
     }
+}
 
-    pub(crate) fn add_opening(&mut self, fields: &[Field]) -> Result<(), Refusal>
-        requires { ListedAll self.old }
-        ensures added { Added (opening_says (view_of self.old) (map see fields.now)) result (view_of self.new) }
-        ensures listings { self.new.opening.listings.items ≡ self.old.opening.listings.items }
-        ensures date { self.new.opening.date.number ≡ self.old.opening.date.number }
-        ensures draft { self.new.draft ≡ self.old.draft }
-    {
-        let row = opening_form(fields)?;
-        self.opening.add_opening(row)
+impl Row for Opened {
+    type Table = Reading;
+
+    ghost view = { view_of };
+
+    ghost says = { opening_says };
+
+    fn add(reading: &mut Reading, fields: &[Field]) -> Result<(), Refusal> {
+        reading.opening.add_opening(opening_form(fields)?)
     }
+}
 
-    pub(crate) fn add_limit(&mut self, fields: &[Field]) -> Result<(), Refusal>
-        requires { ListedAll self.old }
-        ensures added { Added (limit_says (view_of self.old) (map see fields.now)) result (view_of self.new) }
-        ensures listings { self.new.opening.listings.items ≡ self.old.opening.listings.items }
-        ensures date { self.new.opening.date.number ≡ self.old.opening.date.number }
-        ensures draft { self.new.draft ≡ self.old.draft }
-    {
-        let limit = limit_form(fields)?;
-        self.opening.add_limit(limit)
+impl Row for Limit {
+    type Table = Reading;
+
+    ghost view = { view_of };
+
+    ghost says = { limit_says };
+
+    fn add(reading: &mut Reading, fields: &[Field]) -> Result<(), Refusal> {
+        reading.opening.add_limit(limit_form(fields)?)
     }
+}
 
-    pub(crate) fn add_risk(&mut self, fields: &[Field]) -> Result<(), Refusal>
-        ensures added { Added (risk_says (view_of self.old) (map see fields.now)) result (view_of self.new) }
-        ensures contracts { self.new.draft.contracts ≡ self.old.draft.contracts }
-        ensures opening { self.new.opening ≡ self.old.opening }
-    {
-        let row = risk_form(fields)?;
-        self.draft.add_risk(row.name, row.risk)
+impl Row for RiskRow {
+    type Table = Reading;
+
+    ghost view = { view_of };
+
+    ghost says = { risk_says };
+
+    fn add(reading: &mut Reading, fields: &[Field]) -> Result<(), Refusal> {
+        let RiskRow { name, risk } = risk_form(fields)?;
+        reading.draft.add_risk(name, risk)
     }
+}
 
-    pub(crate) fn add_range(&mut self, fields: &[Field]) -> Result<(), Refusal>
-        ensures added { Added (range_says (view_of self.old) (map see fields.now)) result (view_of self.new) }
-        ensures contracts { self.new.draft.contracts ≡ self.old.draft.contracts }
-        ensures opening { self.new.opening ≡ self.old.opening }
-    {
-        let range = range_form(fields)?;
-        self.draft.add_range(range)
+impl Row for GroupRange {
+    type Table = Reading;
+
+    ghost view = { view_of };
+
+    ghost says = { range_says };
+
+    fn add(reading: &mut Reading, fields: &[Field]) -> Result<(), Refusal> {
+        reading.draft.add_range(range_form(fields)?)
     }
+}
 
-    pub(crate) fn add_credit(&mut self, fields: &[Field]) -> Result<(), Refusal>
-        ensures added { Added (credit_says (view_of self.old) (map see fields.now)) result (view_of self.new) }
-        ensures contracts { self.new.draft.contracts ≡ self.old.draft.contracts }
-        ensures opening { self.new.opening ≡ self.old.opening }
-    {
-        let credit = credit_form(fields)?;
-        self.draft.add_credit(credit)
+impl Row for Credit {
+    type Table = Reading;
+
+    ghost view = { view_of };
+
+    ghost says = { credit_says };
+
+    fn add(reading: &mut Reading, fields: &[Field]) -> Result<(), Refusal> {
+        reading.draft.add_credit(credit_form(fields)?)
+    }
+}
+
+impl Row for Call {
+    type Table = Reading;
+
+    ghost view = { view_of };
+
+    ghost says = { call_says };
+
+    fn add(reading: &mut Reading, fields: &[Field]) -> Result<(), Refusal> {
+        reading.calls.add(call_form(fields)?)
     }
 }

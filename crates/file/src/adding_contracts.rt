@@ -5,14 +5,15 @@ ghost use Rattle.contracts.specs.Rows.{said_in};
 ghost use Rattle.contracts.specs.Table.{size, nth};
 ghost use Rattle.tariff.specs.Views.{table_in};
 ghost use Rattle.text.specs.Fields.{see};
-ghost use Rattle.file.specs.Meaning.{view_of, terms_in, Added};
+ghost use Rattle.file.specs.Meaning.{draft_view, terms_in, Added};
 ghost use Rattle.file.specs.Says.{terms_of, contract_by, contract_says};
 
-use crate::reading::Reading;
+use crate::body::Row;
+use calendar::Load;
 use contracts::Terms;
 use days::Day;
 use forms::{ContractRow, contract_form};
-use tariff::Prices;
+use tariff::{Draft, Prices};
 use terms::Refusal;
 use text::Field;
 
@@ -31,41 +32,38 @@ fn terms_of(row: ContractRow) -> Result<Terms, Refusal>
     })
 }
 
-impl Reading {
-    // The delivery hours of the contract at a place.
-    fn hours_at(&self, place: usize) -> u32
-        ensures { place < size (table_in self.now.draft) → result ≡ contract_hours (mask_in load_mask self.now.draft.contracts.instruments.items) (nth (table_in self.now.draft) place) }
-    {
-        match self.draft.contracts.contract_at(place) {
-            Some(contract) => self.draft.contracts.hours_of_contract(contract),
-            None => 0,
-        }
-    }
+// The delivery hours of the contract at a place.
+fn hours_at(draft: &Draft<Load>, place: usize) -> u32
+    ensures { place < size (table_in draft.now) → result ≡ contract_hours (mask_in load_mask draft.now.contracts.instruments.rows.items) (nth (table_in draft.now) place) }
+{
+    draft
+        .contracts
+        .contract_at(place)
+        .map_or(0, |contract| draft.contracts.hours_of_contract(contract))
+}
 
-    // Adds a contract that has hours. What is refused last has been added: whoever is told so drops all.
-    fn add_terms(&mut self, terms: Terms, prices: Prices) -> Result<(), Refusal>
-        ensures added { Added (contract_by (view_of self.old) prices (said_in terms)) result (view_of self.new) }
-        ensures opening { self.new.opening ≡ self.old.opening }
-    {
-        let place = self.draft.contracts.contracts.len();
-        match self.draft.add_contract(terms, prices) {
-            Ok(()) => {
-                if self.hours_at(place) == 0 {
-                    Err(Refusal::NoHours)
-                } else {
-                    Ok(())
-                }
-            }
-            Err(refusal) => Err(refusal),
-        }
+// Adds a contract that has hours. What is refused last has been added: whoever is told so drops all.
+fn add_terms(draft: &mut Draft<Load>, terms: Terms, prices: Prices) -> Result<(), Refusal>
+    ensures { Added (contract_by (draft_view draft.old) prices (said_in terms)) result (draft_view draft.new) }
+{
+    let place = draft.contracts.contracts.rows.len();
+    draft.add_contract(terms, prices)?;
+    if hours_at(draft, place) == 0 {
+        return Err(Refusal::NoHours);
     }
+    Ok(())
+}
 
-    pub(crate) fn add_contract(&mut self, fields: &[Field]) -> Result<(), Refusal>
-        ensures added { Added (contract_says (view_of self.old) (map see fields.now)) result (view_of self.new) }
-        ensures opening { self.new.opening ≡ self.old.opening }
-    {
+impl Row for ContractRow {
+    type Table = Draft<Load>;
+
+    ghost view = { draft_view };
+
+    ghost says = { contract_says };
+
+    fn add(draft: &mut Draft<Load>, fields: &[Field]) -> Result<(), Refusal> {
         let row = contract_form(fields)?;
         let terms = terms_of(row)?;
-        self.add_terms(terms, row.prices)
+        add_terms(draft, terms, row.prices)
     }
 }

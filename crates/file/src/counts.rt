@@ -1,5 +1,5 @@
 // How many lines each section has. The head has one.
-#[derive(Clone, Copy)]
+#[derive(Clone, Copy, PartialEq, Eq, Debug)]
 pub struct Counts {
     pub instruments: u32,
     pub contracts: u32,

@@ -1,15 +1,14 @@
-ghost use Rattle.std.specs.Prelude.{◌≡◌, IfOk};
+ghost use Rattle.std.specs.Prelude.{◌≡◌, ◌≤◌, length, IfOk};
 ghost use Rattle.file.specs.File.{whole, file_says, Lawful};
 ghost use Rattle.file.specs.Given.{given, Matched, Filled};
-ghost use Rattle.file.specs.Meaning.{view_of, ListedAll, Last};
+ghost use Rattle.file.specs.Meaning.{view_of};
 ghost use Rattle.file.specs.Parts.{parts_of};
 ghost use Rattle.file.specs.Tells.{Tells};
 ghost use Rattle.file.specs.View.{no_view};
 
 use crate::calls::Calls;
-use crate::contents::next_counts;
 use crate::fault::{Fault, Unread};
-use crate::line::after_title;
+use crate::lines::{Lines, MOST_BYTES};
 use crate::parts::read_contracts;
 use crate::reading::Reading;
 use crate::tables::Tables;
@@ -17,9 +16,6 @@ use opening::Opening;
 use std::alloc::{AllocError, Global};
 use tariff::Tariff;
 use terms::Refusal;
-
-// The most bytes that a file may have.
-pub const MOST_BYTES: usize = 65_536;
 
 impl Tables {
     // Every table zero.
@@ -40,22 +36,21 @@ impl Tables {
 
 // Reads the parts of a file, one after another.
 fn read_parts(heap: Global, file: &[u8]) -> Result<Reading, Unread>
-    ensures parts { Tells view_of result (parts_of file.now) }
-    ensures listed { IfOk result (λ x. ListedAll x) }
+    requires { length file.now ≤ MOST_BYTES }
+    ensures { Tells view_of result (parts_of file.now) }
 {
-    let mut fields = Vec::new(heap);
-    let rest = after_title(file, 1)?;
-    let (counts, rest) = next_counts(rest, &mut fields)?;
-    let (mut reading, rest) = read_contracts(heap, counts, rest, &mut fields)?;
-    let rest = reading.read_opening(counts, rest, &mut fields)?;
-    let rest = reading.read_tariff(counts, rest, &mut fields)?;
-    reading.read_calls(counts, rest, &mut fields)?;
+    let mut lines = Lines::of(heap, file);
+    lines.title()?;
+    let counts = lines.counts()?;
+    let mut reading = read_contracts(heap, counts, &mut lines)?;
+    reading.read_opening(counts, &mut lines)?;
+    reading.read_tariff(counts, &mut lines)?;
+    reading.read_calls(counts, &mut lines)?;
     Ok(reading)
 }
 
 // The tables of what was read, where no risk line is lacking.
 fn complete(heap: Global, reading: Reading) -> Result<Tables, Unread>
-    requires { ListedAll reading }
     ensures value { Tells given result (whole (view_of reading)) }
     ensures matched { IfOk result (λ t. Matched t) }
 {
@@ -64,6 +59,7 @@ fn complete(heap: Global, reading: Reading) -> Result<Tables, Unread>
         opening,
         calls,
     } = reading;
+    // A `match`: with `map_err` and `?` the proof of what is told did not close.
     match draft.complete(heap) {
         Ok(tariff) => Ok(Tables {
             tariff,
@@ -86,10 +82,8 @@ pub fn tables_of(heap: Global, file: &[u8]) -> Result<Tables, Unread>
             line: 0,
         }));
     }
-    match read_parts(heap, file) {
-        Ok(reading) => complete(heap, reading),
-        Err(unread) => Err(unread),
-    }
+    let reading = read_parts(heap, file)?;
+    complete(heap, reading)
 }
 
 // Fills the tables with what a file says, or refuses it by number and line and leaves every table zero.
@@ -97,17 +91,7 @@ pub fn read(heap: Global, file: &[u8], tables: &mut Tables) -> Result<(), Unread
     ensures filled { Filled (file_says file.now) result tables.old tables.new }
     ensures law { Lawful file.now (file_says file.now) }
 {
-    let Ok(zero) = Tables::zero(heap) else {
-        return Err(Unread::NoMemory);
-    };
-    match tables_of(heap, file) {
-        Ok(read) => {
-            *tables = read;
-            Ok(())
-        }
-        Err(unread) => {
-            *tables = zero;
-            Err(unread)
-        }
-    }
+    *tables = Tables::zero(heap)?;
+    *tables = tables_of(heap, file)?;
+    Ok(())
 }

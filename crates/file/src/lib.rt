@@ -2,7 +2,6 @@
 #![tactic(auto)]
 
 mod adding;
-mod adding_calls;
 mod adding_contracts;
 mod body;
 mod calls;
@@ -11,13 +10,13 @@ mod counts;
 mod fault;
 mod filling;
 mod head;
-mod line;
+mod lines;
 mod parts;
 mod reading;
-mod starting;
 mod tables;
 
 pub use calls::Calls;
 pub use fault::{Fault, Unread};
-pub use filling::{MOST_BYTES, read, tables_of};
+pub use filling::{read, tables_of};
+pub use lines::MOST_BYTES;
 pub use tables::Tables;

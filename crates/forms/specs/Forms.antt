@@ -1,17 +1,18 @@
 -- What the fields of a line say.
-use Rattle.std.specs.Prelude.{ℕ, Bool, true, false, cond, List, Ok, Err, Result, ◌==◌}
+use Rattle.std.specs.Prelude.{cond, List, Ok, Err, Result, ◌==◌}
 use Rattle.terms.specs.declared.refusal.Refusal.{Refusal}
 use Rattle.terms.specs.declared.refusal.Refusal.TheVariants.{Form}
 use Rattle.calendar.specs.Loads.{load_of}
 use Rattle.calendar.specs.Periods.{maturity_of}
 use Rattle.contracts.specs.Kinds.{kind_of}
-use Rattle.bookkeeping.specs.declared.entry.Account.{Account}
-use Rattle.bookkeeping.specs.declared.entry.Call.{Call}
-use Rattle.bookkeeping.specs.declared.entry.Call.TheVariants.{Enter, Cancel, Transfer}
+use Rattle.books.specs.declared.entry.Account.{Account}
+use Rattle.books.specs.declared.entry.Call.{Call}
+use Rattle.books.specs.declared.entry.Call.TheVariants.{Enter, Cancel, Transfer}
 use Rattle.opening.specs.declared.rows.Limit.{Limit}
 use Rattle.opening.specs.declared.rows.Opened.{Opened}
 use Rattle.tariff.specs.Rows.{ranged}
 use Rattle.tariff.specs.Said.{Ranged}
+use Rattle.tariff.specs.Settlements.{settlement_of}
 use Rattle.tariff.specs.declared.rows.Credit.{Credit}
 use Rattle.tariff.specs.declared.rows.GroupRange.{GroupRange}
 use Rattle.tariff.specs.declared.rows.LineName.{LineName}
@@ -28,18 +29,14 @@ use Rattle.forms.specs.declared.row.Head.{Head}
 use Rattle.forms.specs.declared.row.InstrumentRow.{InstrumentRow}
 use Rattle.forms.specs.declared.row.RiskRow.{RiskRow}
 
--- F for final prices, P for provisional ones
-abbrev pub settled_of : ℕ → Result Bool Refusal
-settled_of b = cond (b == 70) (Ok true) (cond (b == 80) (Ok false) (Err Form))
-
 abbrev pub head_form : List Piece → Result Head Refusal
 head_form fields =
     number_first fields then λ date.
     number_first date.1 then λ horizon.
     letter_first horizon.1 then λ letter.
     no_more letter.1 then λ _.
-    settled_of letter.0 then λ settled.
-    Ok (record { date = date.0; horizon = horizon.0; settled = settled })
+    settlement_of letter.0 then λ settlement.
+    Ok (record { date = date.0; horizon = horizon.0; settlement = settlement })
 
 abbrev pub instrument_form : List Piece → Result InstrumentRow Refusal
 instrument_form fields =

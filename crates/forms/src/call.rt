@@ -2,12 +2,12 @@ ghost use Rattle.std.specs.Prelude.{◌≡◌, map};
 ghost use Rattle.text.specs.Fields.{see};
 ghost use Rattle.forms.specs.Forms.{enter_form, cancel_form, transfer_form, call_form};
 
-use crate::take::{take_key, take_signed};
-use bookkeeping::{Call, Trade};
+use crate::take::take;
+use books::{Call, Trade};
 use terms::Refusal;
 use text::{Field, at_end};
 
-// The first field names the call, and the others are its own.
+// The first field names the call, and the others are its own: the slice is split here, so that the line shows which.
 pub fn call_form(fields: &[Field]) -> Result<Call, Refusal>
     ensures { result ≡ call_form (map see fields.now) }
 {
@@ -26,10 +26,10 @@ pub fn call_form(fields: &[Field]) -> Result<Call, Refusal>
 fn enter_form(fields: &[Field]) -> Result<Call, Refusal>
     ensures { result ≡ enter_form (map see fields.now) }
 {
-    let (account, fields) = take_key(fields)?;
-    let (contract, fields) = take_key(fields)?;
-    let (quantity, fields) = take_signed(fields)?;
-    let (price, fields) = take_signed(fields)?;
+    let (account, fields) = take(fields)?;
+    let (contract, fields) = take(fields)?;
+    let (quantity, fields) = take(fields)?;
+    let (price, fields) = take(fields)?;
     at_end(fields)?;
     Ok(Call::Enter(Trade {
         account,
@@ -43,7 +43,7 @@ fn enter_form(fields: &[Field]) -> Result<Call, Refusal>
 fn cancel_form(fields: &[Field]) -> Result<Call, Refusal>
     ensures { result ≡ cancel_form (map see fields.now) }
 {
-    let (entry, fields) = take_key(fields)?;
+    let (entry, fields) = take(fields)?;
     at_end(fields)?;
     Ok(Call::Cancel(entry))
 }
@@ -52,8 +52,8 @@ fn cancel_form(fields: &[Field]) -> Result<Call, Refusal>
 fn transfer_form(fields: &[Field]) -> Result<Call, Refusal>
     ensures { result ≡ transfer_form (map see fields.now) }
 {
-    let (entry, fields) = take_key(fields)?;
-    let (account, fields) = take_key(fields)?;
+    let (entry, fields) = take(fields)?;
+    let (account, fields) = take(fields)?;
     at_end(fields)?;
     Ok(Call::Transfer(entry, account))
 }

@@ -11,7 +11,7 @@ mod section;
 mod take;
 
 pub use call::call_form;
-pub use narrow::{narrow_range, narrow_signed, narrow8, narrow16, narrow32};
+pub use narrow::{Narrow, PriceRange};
 pub use plain::{
     account_form, contract_form, credit_form, head_form, instrument_form, limit_form, opening_form,
 };

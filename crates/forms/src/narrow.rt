@@ -1,47 +1,92 @@
-ghost use Rattle.std.specs.Prelude.{◌≡◌, pos};
-ghost use Rattle.bookkeeping.specs.Answers.{is_quantity};
+ghost use Rattle.std.specs.Prelude.{◌≡◌, ℤ, List, pos};
+ghost use Rattle.terms.specs.declared.bounds.Bounds.{Bounds};
+ghost use Rattle.books.specs.Answers.{is_quantity};
 ghost use Rattle.forms.specs.Narrow.{in8, in16, range_in16, in32, in_signed32, SameIn, small, keys, price_ranges, limits, signed};
 
-// A number that its type does not hold becomes one out of its range, so that the table that takes the row refuses it,
-// as it refuses every other number out of range.
+// A number of a file in the type of its row. One that the type does not hold becomes one out of its range, so that the
+// table that takes the row refuses it, as it refuses every other number out of range.
+pub trait Narrow: Sized {
+    // What a number becomes.
+    ghost narrowed: { ℤ → Self };
+
+    ghost number: { Self → ℤ };
+
+    // The ranges of the numbers that have this type.
+    ghost ranges: { List Bounds };
+
+    fn narrow(z: i64) -> Self
+        ensures value { result ≡ narrowed z }
+        ensures law { SameIn ranges (number result) z };
+}
 
 // Agents, instruments, groups, offsets, months and percentages, which all end below 255.
-pub fn narrow8(z: i64) -> u8
-    ensures value { result ≡ in8 z }
-    ensures law { SameIn small (pos result) z }
-{
-    u8::try_from(z).unwrap_or(u8::MAX)
+impl Narrow for u8 {
+    ghost narrowed = { in8 };
+
+    ghost number = { λ n. pos n };
+
+    ghost ranges = { small };
+
+    fn narrow(z: i64) -> u8 {
+        u8::try_from(z).unwrap_or(u8::MAX)
+    }
 }
 
 // Accounts, contracts and entries, which all begin at 1.
-pub fn narrow16(z: i64) -> u16
-    ensures value { result ≡ in16 z }
-    ensures law { SameIn keys (pos result) z }
-{
-    u16::try_from(z).unwrap_or(0)
+impl Narrow for u16 {
+    ghost narrowed = { in16 };
+
+    ghost number = { λ n. pos n };
+
+    ghost ranges = { keys };
+
+    fn narrow(z: i64) -> u16 {
+        u16::try_from(z).unwrap_or(0)
+    }
 }
 
-// Price ranges, which may be 0.
-pub fn narrow_range(z: i64) -> u16
-    ensures value { result ≡ range_in16 z }
-    ensures law { SameIn price_ranges (pos result) z }
-{
-    u16::try_from(z).unwrap_or(u16::MAX)
+// A price range, which may be 0.
+#[derive(Clone, Copy, PartialEq, Eq, Debug)]
+pub struct PriceRange(pub u16);
+
+impl Narrow for PriceRange {
+    ghost narrowed = { λ z. record { 0 = range_in16 z } };
+
+    ghost number = { λ range. pos range.0 };
+
+    ghost ranges = { price_ranges };
+
+    fn narrow(z: i64) -> PriceRange {
+        PriceRange(u16::try_from(z).unwrap_or(u16::MAX))
+    }
 }
 
 // Concentration limits.
-pub fn narrow32(z: i64) -> u32
-    ensures value { result ≡ in32 z }
-    ensures law { SameIn limits (pos result) z }
-{
-    u32::try_from(z).unwrap_or(u32::MAX)
+impl Narrow for u32 {
+    ghost narrowed = { in32 };
+
+    ghost number = { λ n. pos n };
+
+    ghost ranges = { limits };
+
+    fn narrow(z: i64) -> u32 {
+        u32::try_from(z).unwrap_or(u32::MAX)
+    }
 }
 
 // Prices, quantities and deltas.
-pub fn narrow_signed(z: i64) -> i32
-    ensures value { result ≡ in_signed32 z }
-    ensures law { SameIn signed result z }
-    ensures traded { is_quantity result ≡ is_quantity z }
-{
-    i32::try_from(z).unwrap_or(i32::MAX)
+impl Narrow for i32 {
+    ghost narrowed = { in_signed32 };
+
+    ghost number = { λ n. n };
+
+    ghost ranges = { signed };
+
+    fn narrow(z: i64) -> i32
+        ensures value { result ≡ in_signed32 z }
+        ensures law { SameIn signed result z }
+        ensures traded { is_quantity result ≡ is_quantity z }
+    {
+        i32::try_from(z).unwrap_or(i32::MAX)
+    }
 }

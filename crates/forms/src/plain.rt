@@ -1,15 +1,15 @@
 ghost use Rattle.std.specs.Prelude.{◌≡◌, map};
 ghost use Rattle.text.specs.Cursor.{taken};
 ghost use Rattle.text.specs.Fields.{see};
-ghost use Rattle.forms.specs.Forms.{settled_of, head_form, instrument_form, prices_first, contract_form, account_form, opening_form, limit_form, credit_form};
+ghost use Rattle.forms.specs.Forms.{head_form, instrument_form, prices_first, contract_form, account_form, opening_form, limit_form, credit_form};
 
 use crate::row::{ContractRow, Head, InstrumentRow};
-use crate::take::{take_key, take_limit, take_signed, take_small};
-use bookkeeping::Account;
+use crate::take::take;
+use books::Account;
 use calendar::{Load, Maturity};
 use contracts::{Instrument, Kind};
 use opening::{Limit, Opened};
-use tariff::{Credit, Prices};
+use tariff::{Credit, Prices, Settlement};
 use terms::{Amount, Refusal};
 use text::{Field, at_end, take_letter, take_number};
 
@@ -23,35 +23,25 @@ pub fn head_form(fields: &[Field]) -> Result<Head, Refusal>
     let (horizon, fields) = take_number(fields)?;
     let (letter, fields) = take_letter(fields)?;
     at_end(fields)?;
-    let settled = settled_from(letter)?;
+    let settlement = Settlement::try_from(letter)?;
     Ok(Head {
         date,
         horizon,
-        settled,
+        settlement,
     })
-}
-
-fn settled_from(letter: u8) -> Result<bool, Refusal>
-    ensures { result ≡ settled_of letter }
-{
-    match letter {
-        b'F' => Ok(true),
-        b'P' => Ok(false),
-        _ => Err(Refusal::Form),
-    }
 }
 
 // Number, type, load profile, spot price.
 pub fn instrument_form(fields: &[Field]) -> Result<InstrumentRow, Refusal>
     ensures { result ≡ instrument_form (map see fields.now) }
 {
-    let (number, fields) = take_small(fields)?;
+    let (number, fields) = take(fields)?;
     let (kind, fields) = take_letter(fields)?;
     let (profile, fields) = take_letter(fields)?;
-    let (spot, fields) = take_signed(fields)?;
+    let (spot, fields) = take(fields)?;
     at_end(fields)?;
-    let kind = Kind::from_letter(kind)?;
-    let profile = Load::from_letter(profile)?;
+    let kind = Kind::try_from(kind)?;
+    let profile = Load::try_from(profile)?;
     Ok(InstrumentRow {
         instrument: Instrument {
             number,
@@ -66,14 +56,14 @@ pub fn instrument_form(fields: &[Field]) -> Result<InstrumentRow, Refusal>
 pub fn contract_form(fields: &[Field]) -> Result<ContractRow, Refusal>
     ensures { result ≡ contract_form (map see fields.now) }
 {
-    let (number, fields) = take_key(fields)?;
-    let (instrument, fields) = take_small(fields)?;
+    let (number, fields) = take(fields)?;
+    let (instrument, fields) = take(fields)?;
     let (maturity, fields) = take_letter(fields)?;
     let (first, fields) = take_number(fields)?;
     let (registration, fields) = take_number(fields)?;
     let (prices, fields) = take_prices(fields)?;
     at_end(fields)?;
-    let maturity = Maturity::from_letter(maturity)?;
+    let maturity = Maturity::try_from(maturity)?;
     Ok(ContractRow {
         number,
         instrument,
@@ -87,8 +77,8 @@ pub fn contract_form(fields: &[Field]) -> Result<ContractRow, Refusal>
 fn take_prices<'a, 'b>(fields: &'b [Field<'a>]) -> Result<(Prices, &'b [Field<'a>]), Refusal>
     ensures { taken result ≡ prices_first (map see fields.now) }
 {
-    let (today, fields) = take_signed(fields)?;
-    let (before, fields) = take_signed(fields)?;
+    let (today, fields) = take(fields)?;
+    let (before, fields) = take(fields)?;
     Ok((Prices { today, before }, fields))
 }
 
@@ -96,8 +86,8 @@ fn take_prices<'a, 'b>(fields: &'b [Field<'a>]) -> Result<(Prices, &'b [Field<'a
 pub fn account_form(fields: &[Field]) -> Result<Account, Refusal>
     ensures { result ≡ account_form (map see fields.now) }
 {
-    let (number, fields) = take_key(fields)?;
-    let (agent, fields) = take_small(fields)?;
+    let (number, fields) = take(fields)?;
+    let (agent, fields) = take(fields)?;
     at_end(fields)?;
     Ok(Account { number, agent })
 }
@@ -106,8 +96,8 @@ pub fn account_form(fields: &[Field]) -> Result<Account, Refusal>
 pub fn opening_form(fields: &[Field]) -> Result<Opened, Refusal>
     ensures { result ≡ opening_form (map see fields.now) }
 {
-    let (account, fields) = take_key(fields)?;
-    let (contract, fields) = take_key(fields)?;
+    let (account, fields) = take(fields)?;
+    let (contract, fields) = take(fields)?;
     let (quantity, fields) = take_number(fields)?;
     let (value, fields) = take_number(fields)?;
     at_end(fields)?;
@@ -122,9 +112,9 @@ pub fn opening_form(fields: &[Field]) -> Result<Opened, Refusal>
 pub fn limit_form(fields: &[Field]) -> Result<Limit, Refusal>
     ensures { result ≡ limit_form (map see fields.now) }
 {
-    let (contract, fields) = take_key(fields)?;
-    let (member, fields) = take_limit(fields)?;
-    let (agents, fields) = take_limit(fields)?;
+    let (contract, fields) = take(fields)?;
+    let (member, fields) = take(fields)?;
+    let (agents, fields) = take(fields)?;
     at_end(fields)?;
     Ok(Limit {
         contract,
@@ -137,9 +127,9 @@ pub fn limit_form(fields: &[Field]) -> Result<Limit, Refusal>
 pub fn credit_form(fields: &[Field]) -> Result<Credit, Refusal>
     ensures { result ≡ credit_form (map see fields.now) }
 {
-    let (first, fields) = take_small(fields)?;
-    let (second, fields) = take_small(fields)?;
-    let (percent, fields) = take_small(fields)?;
+    let (first, fields) = take(fields)?;
+    let (second, fields) = take(fields)?;
+    let (percent, fields) = take(fields)?;
     at_end(fields)?;
     Ok(Credit {
         first,

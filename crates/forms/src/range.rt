@@ -3,8 +3,8 @@ ghost use Rattle.text.specs.Fields.{see};
 ghost use Rattle.forms.specs.Forms.{range_form, range_seen};
 ghost use Rattle.forms.specs.Tails.{step_in, steps_form, steps_seen};
 
-use crate::narrow::narrow8;
-use crate::take::{take_range, take_small};
+use crate::narrow::{Narrow, PriceRange};
+use crate::take::take;
 use tariff::{GroupRange, Step, Steps};
 use terms::Refusal;
 use text::{Field, number_in};
@@ -13,8 +13,8 @@ use text::{Field, number_in};
 pub fn range_form(fields: &[Field]) -> Result<GroupRange, Refusal>
     ensures { range_seen result ≡ range_form (map see fields.now) }
 {
-    let (group, fields) = take_small(fields)?;
-    let (range, fields) = take_range(fields)?;
+    let (group, fields) = take(fields)?;
+    let (PriceRange(range), fields) = take(fields)?;
     let steps = steps_form(fields)?;
     Ok(GroupRange {
         group,
@@ -23,7 +23,7 @@ pub fn range_form(fields: &[Field]) -> Result<GroupRange, Refusal>
     })
 }
 
-// The limits, which go in pairs with their percentages.
+// The limits, which go in pairs with their percentages. By place, as the array that is filled is counted.
 fn steps_form(fields: &[Field]) -> Result<Steps, Refusal>
     ensures { steps_seen result ≡ steps_form (map see fields.now) }
 {
@@ -52,6 +52,6 @@ fn step_in(limit: Field<'_>, percent: Field<'_>) -> Result<Step, Refusal>
     let percent = number_in(percent)?;
     Ok(Step {
         limit,
-        percent: narrow8(percent),
+        percent: u8::narrow(percent),
     })
 }

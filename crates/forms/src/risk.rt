@@ -5,7 +5,7 @@ ghost use Rattle.forms.specs.Forms.{day_first, rest_first, own_first, name_first
 ghost use Rattle.forms.specs.Tails.{gains_form};
 
 use crate::row::RiskRow;
-use crate::take::{take_key, take_signed, take_small};
+use crate::take::take;
 use tariff::{LineName, Risk};
 use terms::{Gains, Refusal};
 use text::{Field, number_in, take_letter};
@@ -15,9 +15,9 @@ pub fn risk_form(fields: &[Field]) -> Result<RiskRow, Refusal>
     ensures { result ≡ risk_form (map see fields.now) }
 {
     let (name, fields) = take_name(fields)?;
-    let (group, fields) = take_small(fields)?;
-    let (delta, fields) = take_signed(fields)?;
-    let (price, fields) = take_signed(fields)?;
+    let (group, fields) = take(fields)?;
+    let (delta, fields) = take(fields)?;
+    let (price, fields) = take(fields)?;
     let gains = gains_form(fields)?;
     Ok(RiskRow {
         name,
@@ -46,23 +46,24 @@ fn take_name<'a, 'b>(fields: &'b [Field<'a>]) -> Result<(LineName, &'b [Field<'a
 fn take_day<'a, 'b>(fields: &'b [Field<'a>]) -> Result<(LineName, &'b [Field<'a>]), Refusal>
     ensures { taken result ≡ day_first (map see fields.now) }
 {
-    let (instrument, fields) = take_small(fields)?;
-    let (offset, fields) = take_small(fields)?;
+    let (instrument, fields) = take(fields)?;
+    let (offset, fields) = take(fields)?;
     Ok((LineName::Day(instrument, offset), fields))
 }
 
+// One function of both would take the variant as a parameter, and be no shorter.
 fn take_rest<'a, 'b>(fields: &'b [Field<'a>]) -> Result<(LineName, &'b [Field<'a>]), Refusal>
     ensures { taken result ≡ rest_first (map see fields.now) }
 {
-    let (instrument, fields) = take_small(fields)?;
-    let (month, fields) = take_small(fields)?;
+    let (instrument, fields) = take(fields)?;
+    let (month, fields) = take(fields)?;
     Ok((LineName::Rest(instrument, month), fields))
 }
 
 fn take_own<'a, 'b>(fields: &'b [Field<'a>]) -> Result<(LineName, &'b [Field<'a>]), Refusal>
     ensures { taken result ≡ own_first (map see fields.now) }
 {
-    let (contract, fields) = take_key(fields)?;
+    let (contract, fields) = take(fields)?;
     Ok((LineName::Own(contract), fields))
 }
 
@@ -74,6 +75,7 @@ fn gains_form(fields: &[Field]) -> Result<Gains, Refusal>
     if count > 16 {
         return Err(Refusal::Form);
     }
+    // By place: with `each.iter_mut().zip(fields)` it was not proved what the array holds in the end.
     let mut each = [0; 16];
     for (i, field) in fields.iter().enumerate() {
         each[i] = number_in(*field)?;

@@ -1,12 +1,12 @@
 -- What the station prints on a file.
 use Rattle.std.specs.Prelude.{◌≡◌, ℕ, true, List, [], Ok, Err, Result}
-use Rattle.bookkeeping.specs.Answers.{answers}
-use Rattle.bookkeeping.specs.State.{State, is_account, is_listing}
+use Rattle.books.specs.Answers.{answers}
+use Rattle.books.specs.State.{State, is_account, is_listing}
 use Rattle.opening.specs.Rows.{amount_in}
 use Rattle.opening.specs.Views.{listings_of}
+use Rattle.limits.specs.Openings.{under_both}
 use Rattle.file.specs.View.{View}
 use Rattle.file.specs.declared.fault.Fault.{Fault}
-use Rattle.session.specs.Sessions.{under_both}
 use Rattle.session.specs.Texts.{line, fault_text, answer_lines}
 
 -- a book on the date of a file, with its accounts, contracts and opening positions, and nothing entered

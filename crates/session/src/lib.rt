@@ -1,7 +1,6 @@
 // A session: a margin file read, its book opened under its limits, its calls made, and what is printed of them.
 #![tactic(auto)]
 
-mod limiting;
 mod lines;
 mod printing;
 mod running;

@@ -6,7 +6,7 @@ use std::fmt;
 use terms::Refusal;
 
 // What a call is answered: the refusal's number, or 0, and the entry's, or 0.
-#[derive(Clone, Copy)]
+#[derive(Clone, Copy, PartialEq, Eq, Debug)]
 pub struct Answer(pub Result<u16, Refusal>);
 
 impl fmt::Display for Answer {
@@ -21,7 +21,7 @@ impl fmt::Display for Answer {
 }
 
 // What is told of a file that is refused: the number and the line.
-#[derive(Clone, Copy)]
+#[derive(Clone, Copy, PartialEq, Eq, Debug)]
 pub struct Told(pub Fault);
 
 impl fmt::Display for Told {

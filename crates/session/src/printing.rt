@@ -1,7 +1,7 @@
 ghost use Rattle.std.specs.Prelude.{◌≡◌, ◌++◌, IfOk, string_bytes, OnOk};
 ghost use Rattle.file.specs.File.{file_says};
 ghost use Rattle.session.specs.Printed.{Printed, Session};
-ghost use Rattle.session.specs.Texts.{line, answer_text, answer_lines, fault_text};
+ghost use Rattle.session.specs.Texts.{line, answer_lines, fault_text};
 ghost use Rattle.file.specs.Given.{given, Matched};
 
 use crate::lines::{Answer, Told};
@@ -17,6 +17,7 @@ pub fn printed(heap: Global, file: &[u8]) -> Result<String, AllocError>
     match tables_of(heap, file) {
         Ok(tables) => session_text(heap, tables),
         Err(Unread::Refused(fault)) => fault_text(heap, fault),
+        // `Unread` keeps no `AllocError` to pass on.
         Err(Unread::NoMemory) => Err(AllocError),
     }
 }
@@ -26,7 +27,7 @@ fn session_text(heap: Global, tables: Tables) -> Result<String, AllocError>
     requires { Matched tables }
     ensures { IfOk result (λ t. Session (given tables) (string_bytes t)) }
 {
-    let answers = answers_to(heap, &tables.opening, &tables.calls.rows)?;
+    let answers = answers_to(heap, &tables.opening, &tables.calls.rows.rows)?;
     let mut text = String::new(heap);
     add_answers(&mut text, &answers)?;
     Ok(text)
@@ -38,28 +39,16 @@ fn fault_text(heap: Global, fault: Fault) -> Result<String, AllocError>
 {
     let mut text = String::new(heap);
     let told = Told(fault);
-    match writeln!(text, "{told}") {
-        Ok(()) => Ok(text),
-        Err(_) => Err(AllocError),
-    }
+    writeln!(text, "{told}")?;
+    Ok(text)
 }
 
 fn add_answers(text: &mut String, answers: &[Result<u16, Refusal>]) -> Result<(), AllocError>
     ensures { OnOk result (string_bytes text.new ≡ string_bytes text.old ++ answer_lines answers.now) }
 {
     for answer in answers {
-        add_answer(text, *answer)?;
+        let answer = Answer(*answer);
+        writeln!(text, "{answer}")?;
     }
     Ok(())
-}
-
-// Adds the line for one call.
-fn add_answer(text: &mut String, answer: Result<u16, Refusal>) -> Result<(), AllocError>
-    ensures { OnOk result (string_bytes text.new ≡ string_bytes text.old ++ line (answer_text answer)) }
-{
-    let answer = Answer(answer);
-    match writeln!(text, "{answer}") {
-        Ok(()) => Ok(()),
-        Err(_) => Err(AllocError),
-    }
 }

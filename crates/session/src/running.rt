@@ -1,24 +1,13 @@
 ghost use Rattle.std.specs.Prelude.{◌≡◌, IfOk};
-ghost use Rattle.bookkeeping.specs.Answers.{answers};
+ghost use Rattle.books.specs.Answers.{answers};
 ghost use Rattle.session.specs.Sessions.{opened, Answered};
 
-use crate::limiting::limits_by;
-use bookkeeping::{Call, Entry, Scope, Trade};
+use books::{Call, Entry};
 use ledger::{Ground, TableBook};
-use limits::{LimitTable, drive_under_limits};
+use limits::{Limits, drive_under_limits};
 use opening::Opening;
 use std::alloc::{AllocError, Global};
 use terms::Refusal;
-
-const BLANK: Entry = Entry {
-    trade: Trade {
-        account: 0,
-        contract: 0,
-        quantity: 0,
-        price: 0,
-    },
-    stands: false,
-};
 
 // Opens a table book on an opening under its limits, on a journal that is lent to it for the session, and makes the
 // calls in order.
@@ -29,24 +18,23 @@ pub fn answers_to(
 ) -> Result<Vec<Result<u16, Refusal>>, AllocError>
     ensures { IfOk result (λ v. Answered opening.now calls.now v.items) }
 {
-    let members = limits_by(heap, Scope::Member, &opening.limits, &opening.listings)?;
-    let agents = limits_by(heap, Scope::Agents, &opening.limits, &opening.listings)?;
+    let limits = Limits::of(heap, opening)?;
     let ground = Ground::of(heap, opening)?;
-    let mut journal = [BLANK; 4096];
-    drive_on(heap, ground, &mut journal, members, agents, calls)
+    // An array: the journal is lent with room for all entries, so that no call takes memory.
+    let mut journal = [Entry::BLANK; 4_096];
+    drive_on(heap, ground, &mut journal, limits, calls)
 }
 
-// Drives a table book on a ground under an agent limit under a member limit.
+// Drives a table book on a ground under the limits.
 fn drive_on(
     heap: Global,
     ground: Ground,
-    journal: &mut [Entry; 4096],
-    members: LimitTable,
-    agents: LimitTable,
+    journal: &mut [Entry; 4_096],
+    limits: Limits,
     calls: &[Call],
 ) -> Result<Vec<Result<u16, Refusal>>, AllocError>
-    ensures { IfOk result (λ v. v.items ≡ answers (opened ground members agents) calls.now) }
+    ensures { IfOk result (λ v. v.items ≡ answers (opened ground limits) calls.now) }
 {
     let mut book = TableBook::open(ground, journal);
-    drive_under_limits(heap, &mut book, members, agents, calls)
+    drive_under_limits(heap, &mut book, limits, calls)
 }

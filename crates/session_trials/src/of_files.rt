@@ -1,6 +1,8 @@
 use session::printed;
 use std::test::Fail;
 
+// Each test is its file and what is printed of it: a frame would be no shorter than the two lines that read and compare.
+
 // One forward on base load, two accounts of one agent, one opening position.
 #[test]
 fn calls_are_answered(rt: HostRuntime) -> Result<(), Fail> {

@@ -8,9 +8,9 @@ use Rattle.tariff.specs.declared.tariff.Tariff.{Tariff}
 pub keeps : {P : Type 0} (d : Draft P) → Keeps (table_of d.contracts) (said_of d)
 keeps d = record {
   spots_each = d.spots_each;
-  spots_hold = d.spots_hold;
+  spots_hold = d.spots_within;
   prices_each = d.prices_each;
-  all_prices_hold = d.prices_hold;
+  all_prices_hold = d.prices_within;
   risks_kept = d.risks_kept;
   ranges_kept = d.ranges_kept;
   credits_kept = d.credits_kept;

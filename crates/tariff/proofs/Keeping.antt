@@ -1,7 +1,8 @@
 -- A tariff with one row more keeps the rules.
-use Rattle.std.proofs.Common.{◌≡◌, ℕ, Bool, true, false, cond, not, List, [], ◌∷◌, ◌++◌, map, length, get_or, take, ℤ, is_some, is_ok, Some, None, Ok, Err, Option, Result, refl, ap, ◌∙◌, inl, inr, arith}
+use Rattle.std.proofs.Common.{◌≡◌, ℕ, Bool, true, false, cond, not, List, [], ◌∷◌, ◌++◌, map, length, get_or, take, ℤ, is_some, is_ok, Some, None, Ok, Err, Option, Result, sym, refl, subst, inl, inr, arith}
 use Rattle.std.proofs.lemmas.List.{take-append-le, take_at, get_or_append_left, get_or_push, length_push, map_push}
-use Rattle.std.proofs.lemmas.Bool.{cases_lt, not-false, and_from, and_parts}
+use Rattle.std.proofs.lemmas.Bool.{cases_lt, not-false, and_from, and_parts, cond_both}
+use Rattle.std.specs.List.{list_all}
 use Rattle.terms.specs.Ranges.{holds_in}
 use Rattle.terms.specs.declared.bounds.Bounds.TheVariants.{Price}
 use Rattle.terms.specs.declared.refusal.Refusal.{Refusal}
@@ -11,7 +12,7 @@ use Rattle.contracts.specs.Lines.{Line, lines}
 use Rattle.contracts.specs.Rules.{answer_by, instrument_refusal, contract_refusal}
 use Rattle.contracts.specs.Table.{Table, Instr, Listed}
 use Rattle.contracts.specs.Views.{plus_instrument, plus_contract}
-use Rattle.tariff.specs.Ranges.{all, prices_hold, risk_holds}
+use Rattle.tariff.specs.Ranges.{prices_hold, risk_holds}
 use Rattle.tariff.specs.Rules.{spot_refusal, prices_refusal, is_among, rated_refusal, Kept, Keeps}
 use Rattle.tariff.specs.Said.{Rated, Said}
 use Rattle.tariff.specs.Views.{plus_spot, plus_prices}
@@ -31,12 +32,18 @@ kept_more refusal xs x kept h k d l = elim (cases_lt k (length xs)) [
       rw (take_at xs (x ∷ []) k at, get_or_push xs x d k at) h)
 ]
 
-pub rows_more : {X Y : Type 0} (view : X → Y) (xs ys : List X) (x : X) → ys ≡ xs ++ x ∷ [] → map view ys ≡ map view xs ++ view x ∷ []
-rows_more view xs ys x e = ap (map view) e ∙ map_push view xs x
+-- what holds of the rows that were there holds of them and one more
+pub rows_either : {X : Type 0} (P : List X → Type 0) (xs ys : List X) (x : X) (r : Result (Unit {0}) Refusal) → ys ≡ cond (is_ok r) (xs ++ x ∷ []) xs → P xs → (is_ok r ≡ true → P (xs ++ x ∷ [])) → P ys
+rows_either P xs ys x r e was more = subst P (sym e) (cond_both (is_ok r) _ _ P more (λ _. was))
 
-pub all_push : {X : Type 0} (p : X → Bool) (xs : List X) (x : X) → all p xs ≡ true → p x ≡ true → all p (xs ++ x ∷ []) ≡ true
+-- rows that stand for others
+pub seen_more : {X Y : Type 0} (view : X → Y) (refusal : List Y → Y → Option Refusal) (xs ys : List X) (x : X) (r : Result (Unit {0}) Refusal) → ys ≡ cond (is_ok r) (xs ++ x ∷ []) xs → (is_ok r ≡ true → is_some (refusal (map view xs) (view x)) ≡ false) → Kept refusal (map view xs) → Kept refusal (map view ys)
+seen_more view refusal xs ys x r e fits kept =
+    rows_either (λ (zs : List _). Kept refusal (map view zs)) xs ys x r e kept (λ ok. subst (Kept refusal) (sym (map_push view xs x)) (kept_more refusal (map view xs) (view x) kept (fits ok)))
+
+pub all_push : {X : Type 0} (p : X → Bool) (xs : List X) (x : X) → list_all p xs ≡ true → p x ≡ true → list_all p (xs ++ x ∷ []) ≡ true
 all_push p [] x h e = rw e
-all_push p (y ∷ xs) x h e = let a = and_parts (p y) (all p xs) h in and_from (p y) _ a.0 (all_push p xs x a.1 e)
+all_push p (y ∷ xs) x h e = let a = and_parts (p y) (list_all p xs) h in and_from (p y) _ a.0 (all_push p xs x a.1 e)
 
 -- ---- a table with more lines
 module _ (t t' : Table) (more : (l : Line) → is_among l (lines t) ≡ true → is_among l (lines t') ≡ true) where
@@ -84,11 +91,7 @@ keeps_prices t s c p k h =
       credits_kept = k.credits_kept;
     }
 
--- ---- what an answer tells
-pub ok_passes : (u : Unit {0}) (o : Option Refusal) → Ok u ≡ answer_by o → is_some o ≡ false
-ok_passes u None e = refl
-ok_passes u (Some x) e = let z : ◌≡◌ {A = ℕ} 0 1 = cc in absurd (omega arith)
-
+-- ---- after a row that may be refused
 abbrev pub BothKeep : Table × Said → Type 0
 BothKeep d = Keeps d.0 d.1
 

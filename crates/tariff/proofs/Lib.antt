@@ -4,3 +4,4 @@ pub mod Keeping
 pub mod Drafts
 pub mod Chains
 pub mod Names
+mod Same

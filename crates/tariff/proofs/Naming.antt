@@ -2,7 +2,7 @@
 use Rattle.std.proofs.Common.{◌≡◌, ℕ, zero, suc, ◌+◌, ◌-◌, ◌<◌, ◌≤◌, Bool, true, false, cond, ◌&&◌, ◌||◌, eqb, ltb, leb, List, [], ◌∷◌, ◌++◌, map, get_or, Some, None, sym, refl, ap, ◌∙◌, inl, inr, arith}
 use mathlib.Core.Bool.{or-false}
 use Rattle.std.proofs.lemmas.List.{get_or_append_left, get_or_past}
-use Rattle.std.proofs.lemmas.Bool.{cases_Bool, cases_lt, eq-eqb, ne_eqb, or_from, or_cases, or_left, or_right, both_ways, and_parts, and_from, false≢true, cond-true, cond-false}
+use Rattle.std.proofs.lemmas.Bool.{cases_Bool, cases_lt, eq-eqb, ne_eqb, ltb-true, ltb-false, or_from, or_cases, or_left, or_right, both_ways, and_left, and_right, and_parts, and_from, false≢true, cond-true, cond-false}
 use Rattle.std.proofs.lemmas.Bool.Decides.{nat_tests}
 use Rattle.std.specs.List.{range_with_len}
 use Rattle.days.specs.Months.{month_of}
@@ -176,5 +176,33 @@ line_absent t l e = sym (cond-false (is_among l (lines t)) (Some l) None e)
 pub month_named : (m k : ℕ) → leb k 1 ≡ (eqb m (m + k) || eqb (m + 1) (m + k))
 month_named m k = grind (arith, nat_tests)
 
-pub month_meant : (m k : ℕ) → leb k 1 ≡ true → cond (eqb k 1) (m + 1) m ≡ m + k
-month_meant m k e = grind (arith, nat_tests)
+module _ (t : Table) (u k : ℕ) where
+  pub rest_there : (n : ℕ) → is_numbered u t.instruments ≡ true → leb k 1 ≡ true → n ≡ month_of t.date + k → Some (rest u n) ≡ line_in t (rest u (month_of t.date + k))
+  rest_there n listed near e = ap (λ (m : ℕ). Some (rest u m)) e ∙ line_there t (rest u (month_of t.date + k)) (lines_rest t u (month_of t.date + k) ∙ and_from _ _ listed (sym (month_named (month_of t.date) k) ∙ near))
+
+  pub rest_unlisted : is_numbered u t.instruments ≡ false → None ≡ line_in t (rest u (month_of t.date + k))
+  rest_unlisted e = line_absent t (rest u (month_of t.date + k)) (lines_rest t u (month_of t.date + k) ∙ and_left _ _ e)
+
+  pub rest_far : leb k 1 ≡ false → None ≡ line_in t (rest u (month_of t.date + k))
+  rest_far e = line_absent t (rest u (month_of t.date + k)) (lines_rest t u (month_of t.date + k) ∙ and_right _ _ (sym (month_named (month_of t.date) k) ∙ e))
+
+-- the own line of the contract at a place
+module _ (t : Table) (p : ℕ) where
+  pub own_past : size t ≤ p → None ≡ line_in t (own p)
+  own_past h = line_absent t (own p) (lines_own t p ∙ ap (has_line t) (get_or_past t.contracts p blank h) ∙ blank_none t)
+
+  pub own_by : (c : Listed) → c ≡ nth t p → line_in t (own p) ≡ cond (has_line t c) (Some (own p)) None
+  own_by c e = ap (λ (b : Bool). cond b (Some (own p)) None) (lines_own t p ∙ ap (has_line t) (sym e))
+
+-- ---- places
+pub place_some : (p n i : ℕ) → Some i ≡ cond (ltb p n) (Some p) None → (p < n) × (i ≡ p)
+place_some p n i e = elim (cases_Bool (ltb p n)) [
+  | inl a ↦ (let v = cond-true (ltb p n) (Some p) None a in (ltb-true p n a, cc))
+  | inr a ↦ (let v = cond-false (ltb p n) (Some p) None a in let z : ◌≡◌ {A = ℕ} 0 1 = cc in absurd (omega arith))
+]
+
+pub place_none : (p n : ℕ) → None ≡ cond (ltb p n) (Some p) None → n ≤ p
+place_none p n e = elim (cases_Bool (ltb p n)) [
+  | inl a ↦ (let v = cond-true (ltb p n) (Some p) None a in let z : ◌≡◌ {A = ℕ} 0 1 = cc in absurd (omega arith))
+  | inr a ↦ ltb-false p n a
+]

@@ -1,13 +1,7 @@
--- One row more of a walk through a list.
-use Rattle.std.proofs.Common.{◌≡◌, ℕ, ◌+◌, ◌<◌, ◌≤◌, Bool, true, false, ◌&&◌, ◌||◌, List, [], ◌∷◌, length, get_or, drop, ℤ, sym, ap, ◌∙◌, subst}
-use Rattle.std.proofs.lemmas.List.{at_drop_more, at_drop_all}
-use Rattle.std.proofs.lemmas.Bool.{and_left}
-use Rattle.tariff.specs.Ranges.{all, step_follows, rise_from}
-use Rattle.tariff.specs.declared.rows.Step.{Step}
-
--- x stands at place i, so that it is the first of what is left
-pub at_place : {X Y : Type 0} (F : List X → Y) (xs : List X) (i : ℕ) (x d : X) → i < length xs → get_or xs i d ≡ x → F (drop i xs) ≡ F (x ∷ drop (i + 1) xs)
-at_place F xs i x d h at = at_drop_more F xs i d h ∙ ap (λ y. F (y ∷ drop (i + 1) xs)) at
+-- Walks through a list.
+use Rattle.std.proofs.Common.{◌≡◌, Bool, true, false, cond, ◌&&◌, ◌||◌, List, [], ◌∷◌, map, Some, None, Option, refl, ap, ◌∙◌}
+use Rattle.std.specs.List.{find, list_all}
+use Rattle.std.specs.Option.{option_map}
 
 pub true_and : (a b : Bool) → a ≡ true → (a && b) ≡ b
 true_and a b e = rw e
@@ -15,27 +9,21 @@ true_and a b e = rw e
 pub false_or : (a b : Bool) → a ≡ false → (a || b) ≡ b
 false_or a b e = rw e
 
-module _ {X : Type 0} (p : X → Bool) (xs : List X) (i : ℕ) (x d : X) (h : i < length xs) (at : get_or xs i d ≡ x) where
-  pub all_here : p x ≡ false → all p (drop i xs) ≡ false
-  all_here e = at_place (all p) xs i x d h at ∙ and_left (p x) _ e
+-- ---- rows, and what they stand for
+module _ {X Y : Type 0} (f : X → Y) (p : X → Bool) (q : Y → Bool) (e : (x : X) → p x ≡ q (f x)) where
+  pub find_seen : (xs : List X) → option_map f (find p xs) ≡ find q (map f xs)
+  find_seen [] = refl
+  find_seen (x ∷ xs) = by (p x) (find_seen xs) ∙ ap (λ (b : Bool). cond b (Some (f x)) (find q (map f xs))) (e x)
+    where
+      by : (b : Bool) → option_map f (find p xs) ≡ find q (map f xs) → option_map f (cond b (Some x) (find p xs)) ≡ cond b (Some (f x)) (find q (map f xs))
+      by true h = refl
+      by false h = h
 
-  pub all_more : p x ≡ true → all p (drop (i + 1) xs) ≡ all p (drop i xs)
-  all_more e = sym (at_place (all p) xs i x d h at ∙ true_and (p x) _ e)
+  pub all_seen : (xs : List X) → list_all p xs ≡ list_all q (map f xs)
+  all_seen [] = refl
+  all_seen (x ∷ xs) = rw (e x, all_seen xs)
 
-pub all_end : {X : Type 0} (p : X → Bool) (xs : List X) (i : ℕ) → length xs ≤ i → all p (drop i xs) ≡ true
-all_end p xs i h = at_drop_all (all p) xs i h
-
-module _ (before : ℤ) (xs : List Step) (i : ℕ) (x d : Step) (h : i < length xs) (at : get_or xs i d ≡ x) where
-  pub rise_here : step_follows before x ≡ false → rise_from before (drop i xs) ≡ false
-  rise_here e = at_place (rise_from before) xs i x d h at ∙ and_left (step_follows before x) _ e
-
-  pub rise_more : step_follows before x ≡ true → rise_from x.limit (drop (i + 1) xs) ≡ rise_from before (drop i xs)
-  rise_more e = sym (at_place (rise_from before) xs i x d h at ∙ true_and (step_follows before x) _ e)
-
--- the same, where the list is read as `cs`
-module _ {X Y : Type 0} (F : List X → Y) (cs items : List X) (i : ℕ) (v : cs ≡ items) where
-  pub item_at : (x d : X) → i < length cs → x ≡ get_or cs i d → F (drop i items) ≡ F (x ∷ drop (i + 1) items)
-  item_at x d h at = subst (λ (l : List X). F (drop i l) ≡ F (x ∷ drop (i + 1) l)) v (at_place F cs i x d h (sym at))
-
-  pub item_end : length cs ≤ i → F (drop i items) ≡ F []
-  item_end h = subst (λ (l : List X). F (drop i l) ≡ F []) v (at_drop_all F cs i h)
+-- what is made of what is found
+pub mapped_twice : {X Y Z : Type 0} (f : X → Y) (g : Y → Z) (o : Option X) → option_map (λ x. g (f x)) o ≡ option_map g (option_map f o)
+mapped_twice f g None = refl
+mapped_twice f g (Some x) = refl

@@ -1,3 +1,4 @@
+pub mod Settlements
 pub mod Said
 pub mod Rows
 pub mod Ranges

@@ -1,5 +1,6 @@
 -- Which numbers a row may hold.
 use Rattle.std.specs.Prelude.{Bool, true, ◌&&◌, List, [], ◌∷◌, length, ℤ, pos, negsuc, ◌==◌, int_lt, nat_le}
+use Rattle.std.specs.List.{list_all}
 use Rattle.terms.specs.Ranges.{holds_in}
 use Rattle.terms.specs.declared.amounts.Gains.{Gains}
 use Rattle.terms.specs.declared.bounds.Bounds.TheVariants.{Price, Instrument, DayOffset, MonthOffset, Contract, Group, Delta, Gain, PriceRange, NetLimit, ExtraPercent, CreditPercent}
@@ -11,11 +12,6 @@ use Rattle.tariff.specs.declared.rows.Prices.{Prices}
 use Rattle.tariff.specs.declared.rows.Risk.{Risk}
 use Rattle.tariff.specs.declared.rows.Step.{Step}
 
--- does the test hold of each?
-abbrev pub all : {X : Type 0} → (X → Bool) → List X → Bool
-all p [] = true
-all p (x ∷ xs) = p x && all p xs
-
 abbrev pub prices_hold : Prices → Bool
 prices_hold p = holds_in Price p.today && holds_in Price p.before
 
@@ -26,7 +22,7 @@ name_holds (Own n) = holds_in Contract (pos n)
 
 -- sixteen of them
 abbrev pub gains_hold : Gains → Bool
-gains_hold g = length g.each == 16 && all (holds_in Gain) g.each
+gains_hold g = length g.each == 16 && list_all (holds_in Gain) g.each
 
 abbrev pub risk_holds : Risk → Bool
 risk_holds r = holds_in Group (pos r.group) && (holds_in Delta r.delta && (holds_in Price r.price && gains_hold r.gains))

@@ -1,9 +1,6 @@
 -- What the code's rows stand for. Names no struct that has the rules as its ghost fields.
-use Rattle.std.specs.Prelude.{ℕ, List, take, Ok, Err, Result}
-use Rattle.terms.specs.declared.refusal.Refusal.{Refusal}
-use Rattle.contracts.specs.Lines as spec
+use Rattle.std.specs.Prelude.{ℕ, List, take}
 use Rattle.contracts.specs.Seen.{seen}
-use Rattle.contracts.specs.declared.line.Line.{Line}
 use Rattle.tariff.specs.Said.{Rated, Ranged}
 use Rattle.tariff.specs.declared.rows.GroupRange.{GroupRange}
 use Rattle.tariff.specs.declared.rows.RiskLine.{RiskLine}
@@ -20,7 +17,3 @@ ranged r = record { group = r.group; range = r.range; steps = steps_in r.steps }
 -- on a date
 abbrev pub rated : ℕ → RiskLine → Rated
 rated date r = record { line = seen date r.line; risk = r.risk }
-
-abbrev pub line_seen : ℕ → Result Line Refusal → Result spec.Line Refusal
-line_seen date (Ok l) = Ok (seen date l)
-line_seen date (Err e) = Err e

@@ -1,5 +1,7 @@
 -- The rules of a risk tariff: what a row that is added is refused for, by number.
-use Rattle.std.specs.Prelude.{◌≡◌, ℕ, suc, ◌+◌, ◌-◌, ◌<◌, Bool, true, false, cond, not, ◌&&◌, ◌||◌, List, [], ◌∷◌, map, length, take, ℤ, is_some, Some, None, Ok, Err, Option, Result, ◌==◌, nat_le, slice_index_or}
+use Rattle.std.specs.Prelude.{◌≡◌, ℕ, suc, ◌+◌, ◌-◌, ◌<◌, Bool, true, false, cond, not, ◌&&◌, ◌||◌, List, [], ◌∷◌, map, length, take, ℤ, is_some, Some, None, Option, ◌==◌, nat_le, slice_index_or}
+use Rattle.std.specs.List.{find, list_any, list_all}
+use Rattle.std.specs.Option.{option_map}
 use Rattle.terms.specs.Ranges.{holds_in}
 use Rattle.terms.specs.declared.bounds.Bounds.TheVariants.{Price}
 use Rattle.terms.specs.declared.refusal.Refusal.{Refusal}
@@ -8,7 +10,7 @@ use Rattle.days.specs.Months.{month_of}
 use Rattle.contracts.specs.Lines.{Line, day, rest, own, lines}
 use Rattle.contracts.specs.Rules.{instrument_refusal, contract_refusal}
 use Rattle.contracts.specs.Table.{Listed, Table, size}
-use Rattle.tariff.specs.Ranges.{all, prices_hold, name_holds, risk_holds, range_holds, credit_holds}
+use Rattle.tariff.specs.Ranges.{prices_hold, name_holds, risk_holds, range_holds, credit_holds}
 use Rattle.tariff.specs.Said.{Rated, Ranged, Said}
 use Rattle.tariff.specs.declared.rows.Credit.{Credit}
 use Rattle.tariff.specs.declared.rows.LineName.{LineName}
@@ -37,8 +39,7 @@ same_line (own i) (rest v n) = false
 same_line (own i) (own j) = i == j
 
 abbrev pub is_among : Line → List Line → Bool
-is_among l [] = false
-is_among l (m ∷ ms) = same_line m l || is_among l ms
+is_among l ms = list_any (λ m. same_line m l) ms
 
 -- the place of the contract with a number; past the end where there is none
 abbrev pub place_of : ℕ → List Listed → ℕ
@@ -60,8 +61,7 @@ abbrev pub LinesNamed : Table → Type 0
 LinesNamed t = (l : Line) → is_among l (lines t) ≡ true → (n : LineName) × (name_holds n ≡ true) × (named t n ≡ l)
 
 abbrev pub risk_in : List Rated → Line → Option Risk
-risk_in [] l = None
-risk_in (r ∷ rs) l = cond (same_line r.line l) (Some r.risk) (risk_in rs l)
+risk_in rs l = option_map (λ r. r.risk) (find (λ r. same_line r.line l) rs)
 
 abbrev pub has_risk : List Rated → Line → Bool
 has_risk rs l = is_some (risk_in rs l)
@@ -78,15 +78,9 @@ rated_refusal t rs r =
 abbrev pub risk_refusal : Table → List Rated → LineName → Risk → Option Refusal
 risk_refusal t rs n r = cond (not (name_holds n)) (Some OutOfRange) (rated_refusal t rs (record { line = named t n; risk = r }))
 
--- the line that may have its risk line added
-abbrev pub line_by : Line → Option Refusal → Result Line Refusal
-line_by l None = Ok l
-line_by l (Some e) = Err e
-
 -- ---- a group's price range
 abbrev pub range_in : List Ranged → ℕ → Option Ranged
-range_in [] g = None
-range_in (r ∷ rs) g = cond (r.group == g) (Some r) (range_in rs g)
+range_in rs g = find (λ r. r.group == g) rs
 
 -- 2 a number out of range or limits that do not rise, 4 a group again, 7 64 are there
 abbrev pub range_refusal : List Ranged → Ranged → Option Refusal
@@ -104,8 +98,7 @@ abbrev pub same_pair : Credit → Credit → Bool
 same_pair c e = (e.first == c.first && e.second == c.second) || (e.first == c.second && e.second == c.first)
 
 abbrev pub is_paired : Credit → List Credit → Bool
-is_paired c [] = false
-is_paired c (e ∷ es) = same_pair c e || is_paired c es
+is_paired c es = list_any (same_pair c) es
 
 -- 2 a number out of range or a percentage that rises, 4 a group with itself or a pair again, in either order, 7 64 are
 -- there
@@ -123,16 +116,16 @@ Kept {X} refusal xs = (k : ℕ) (d : X) → k < length xs → is_some (refusal (
 -- while it is being said: a price for each instrument and each contract, in range, and rows that keep the rules
 pub record Keeps (t : Table) (s : Said) : Type 0 where
   pub spots_each : length s.spots ≡ length t.instruments
-  pub spots_hold : all (holds_in Price) s.spots ≡ true
+  pub spots_hold : list_all (holds_in Price) s.spots ≡ true
   pub prices_each : length s.prices ≡ size t
-  pub all_prices_hold : all prices_hold s.prices ≡ true
+  pub all_prices_hold : list_all prices_hold s.prices ≡ true
   pub risks_kept : Kept (rated_refusal t) s.risks
   pub ranges_kept : Kept range_refusal s.ranges
   pub credits_kept : Kept credit_refusal s.credits
 
 -- does every line of the table have its risk line?
 abbrev pub is_complete : Table → List Rated → Bool
-is_complete t rs = all (has_risk rs) (lines t)
+is_complete t rs = list_all (has_risk rs) (lines t)
 
 -- a tariff of the table
 pub record Given (t : Table) (s : Said) : Type 0 where

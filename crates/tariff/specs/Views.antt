@@ -4,6 +4,7 @@ use Rattle.terms.specs.declared.refusal.Refusal.{Refusal}
 use Rattle.contracts.specs.Table.{Table}
 use Rattle.contracts.specs.Views.{table_of}
 use Rattle.tariff.specs.Rows.{rated, ranged}
+use Rattle.tariff.specs.Settlements.{is_final}
 use Rattle.tariff.specs.Said.{Rated, Ranged, Said}
 use Rattle.tariff.specs.declared.draft.Draft.{Draft}
 use Rattle.tariff.specs.declared.rows.Credit.{Credit}
@@ -13,7 +14,7 @@ abbrev pub table_in : {P : Type 0} → Draft P → Table
 table_in d = table_of d.contracts
 
 abbrev pub said_of : {P : Type 0} → Draft P → Said
-said_of d = record { settled = d.settled; spots = vec_items d.spots; prices = vec_items d.prices; risks = map (rated d.contracts.date.number) (vec_items d.risks); ranges = map ranged (vec_items d.ranges); credits = vec_items d.credits }
+said_of d = record { settled = is_final d.settlement; spots = vec_items d.spots.rows; prices = vec_items d.prices.rows; risks = map (rated d.contracts.date.number) (vec_items d.risks.rows); ranges = map ranged (vec_items d.ranges.rows); credits = vec_items d.credits.rows }
 
 abbrev pub draft_of : {P : Type 0} → Draft P → Table × Said
 draft_of d = (table_in d, said_of d)

@@ -1,13 +1,14 @@
 ghost use Rattle.std.specs.Prelude.{◌≡◌, false, map, IfOk, if◌then◌else◌, Ok, Err};
+ghost use Rattle.std.specs.List.{list_all};
 ghost use Rattle.terms.specs.Told.{Told};
 ghost use Rattle.terms.specs.declared.refusal.Refusal.TheVariants.{MissingRiskLine};
 ghost use Rattle.contracts.specs.Seen.{seen};
 ghost use Rattle.contracts.specs.Views.{empty_table};
-ghost use Rattle.tariff.specs.Ranges.{all};
 ghost use Rattle.tariff.specs.Rules.{has_risk, is_complete, Given};
 ghost use Rattle.tariff.specs.Views.{table_in, said_of, draft_of, no_rows};
 
 use crate::draft::Draft;
+use crate::rows::Settlement;
 use crate::tariff::Tariff;
 use contracts::Line;
 use std::alloc::{AllocError, Global};
@@ -28,14 +29,9 @@ impl<P: Drop> Draft<P> {
 
     // Whether each of some lines has its risk line.
     fn rates_all(&self, lines: &[Line]) -> bool
-        ensures { result ≡ all (has_risk (said_of self.now).risks) (map (seen (table_in self.now).date) lines.now) }
+        ensures { result ≡ list_all (has_risk (said_of self.now).risks) (map (seen (table_in self.now).date) lines.now) }
     {
-        for line in lines {
-            if self.risk_of(*line).is_none() {
-                return false;
-            }
-        }
-        true
+        lines.iter().all(|line| self.risk_of(*line).is_some())
     }
 }
 
@@ -53,6 +49,6 @@ impl<P: Drop> Tariff<P> {
         ensures value { result ≡ (said_of self.now.draft).settled }
         ensures law { Given (table_in self.now.draft) (said_of self.now.draft) }
     {
-        self.draft.settled
+        self.draft.settlement == Settlement::Final
     }
 }

@@ -1,16 +1,17 @@
-ghost use Rattle.std.specs.Prelude.{◌≡◌, ℕ, ◌+◌, ◌&&◌, nat_le, nat_lt};
+ghost use Rattle.std.specs.Prelude.{◌≡◌, ◌+◌, ◌&&◌, Some, None, if◌then◌else◌, nat_le, nat_lt};
 ghost use Rattle.std.specs.Option.{option_map};
 ghost use Rattle.days.specs.Months.{month_of};
 ghost use Rattle.contracts.specs.Lines.{day, rest, own};
 ghost use Rattle.contracts.specs.Rules.{is_numbered};
 ghost use Rattle.contracts.specs.Seen.{seen};
+ghost use Rattle.contracts.specs.Table.{size};
 ghost use Rattle.tariff.specs.Rows.{ranged};
-ghost use Rattle.tariff.specs.Rules.{same_line, line_in, named, LinesNamed, place_of, risk_in, range_in, same_pair, is_paired, percent_left};
+ghost use Rattle.tariff.specs.Rules.{line_in, named, LinesNamed, place_of, risk_in, range_in, same_pair, is_paired, percent_left};
 ghost use Rattle.tariff.specs.Views.{table_in, said_of};
 
 use crate::draft::Draft;
 use crate::rows::{Credit, GroupRange, LineName, Risk};
-use contracts::Line;
+use contracts::{Line, RestOf};
 use days::Day;
 
 impl<P: Drop> Draft<P> {
@@ -22,7 +23,7 @@ impl<P: Drop> Draft<P> {
         match name {
             LineName::Day(instrument, offset) => self.day_line(instrument, offset),
             LineName::Rest(instrument, month) => self.rest_line(instrument, month),
-            LineName::Own(number) => self.own_line(self.place_of(number)),
+            LineName::Own(number) => self.own_line(number),
         }
     }
 
@@ -49,114 +50,66 @@ impl<P: Drop> Draft<P> {
     fn rest_line(&self, instrument: u8, month: u8) -> Option<Line>
         ensures { option_map (seen (table_in self.now).date) result ≡ line_in (table_in self.now) (rest instrument (month_of (table_in self.now).date + month)) }
     {
-        if self.has_rest(instrument, month) {
-            Some(Line::Rest(instrument, month == 1))
-        } else {
-            None
+        self.contracts.kind_of(instrument)?;
+        match month {
+            0 => Some(Line::Rest(instrument, RestOf::ThisMonth)),
+            1 => Some(Line::Rest(instrument, RestOf::NextMonth)),
+            _ => None,
         }
     }
 
-    // Whether an instrument is listed and a month is this one or the next.
-    fn has_rest(&self, instrument: u8, month: u8) -> bool
-        ensures { result ≡ (is_numbered instrument (table_in self.now).instruments && nat_le month 1) }
+    // The own line of the contract with a number.
+    fn own_line(&self, number: u16) -> Option<Line>
+        ensures { option_map (seen (table_in self.now).date) result ≡ line_in (table_in self.now) (own (place_of number (table_in self.now).contracts)) }
     {
-        self.contracts.kind_of(instrument).is_some() && month <= 1
+        let place = self.place_of(number)?;
+        let contract = self.contracts.contract_at(place)?;
+        self.contracts
+            .has_line(contract)
+            .then_some(Line::Own(place))
     }
 
-    // The own line of the contract at a place.
-    fn own_line(&self, place: usize) -> Option<Line>
-        ensures { option_map (seen (table_in self.now).date) result ≡ line_in (table_in self.now) (own place) }
+    // The place of the contract with a number.
+    fn place_of(&self, number: u16) -> Option<usize>
+        ensures { result ≡ (if nat_lt (place_of number (table_in self.now).contracts) (size (table_in self.now)) then Some (place_of number (table_in self.now).contracts) else None) }
     {
-        let Some(contract) = self.contracts.contract_at(place) else {
-            return None;
-        };
-        if self.contracts.has_line(contract) {
-            Some(Line::Own(place))
-        } else {
-            None
-        }
-    }
-
-    // The place of the contract with a number, past the end where there is none.
-    fn place_of(&self, number: u16) -> usize
-        ensures { result ≡ place_of number (table_in self.now).contracts }
-    {
-        for (i, c) in self.contracts.contracts.iter().enumerate() {
-            if c.terms.number == number {
-                return i;
-            }
-        }
-        self.contracts.contracts.len()
+        self.contracts
+            .contracts
+            .rows
+            .iter()
+            .position(|c| c.terms.number == number)
     }
 
     // The risk of a line.
     pub fn risk_of(&self, line: Line) -> Option<Risk>
         ensures { result ≡ risk_in (said_of self.now).risks (seen (table_in self.now).date line) }
     {
-        for r in self.risks.iter() {
-            if is_same_line(r.line, line) {
-                return Some(r.risk);
-            }
-        }
-        None
+        self.risks
+            .rows
+            .iter()
+            .find(|r| r.line == line)
+            .map(|r| r.risk)
     }
 
     // The price range and limits of a group.
     pub fn range_of(&self, group: u8) -> Option<GroupRange>
         ensures { option_map ranged result ≡ range_in (said_of self.now).ranges group }
     {
-        for r in self.ranges.iter() {
-            if r.group == group {
-                return Some(*r);
-            }
-        }
-        None
+        self.ranges.rows.iter().find(|r| r.group == group).copied()
     }
 
     // Whether two groups have a credit already, in either order.
     pub(crate) fn is_paired(&self, credit: Credit) -> bool
         ensures { result ≡ is_paired credit (said_of self.now).credits }
     {
-        for c in self.credits.iter() {
-            if is_same_pair(credit, *c) {
-                return true;
-            }
-        }
-        false
+        self.credits.rows.iter().any(|c| is_same_pair(credit, *c))
     }
 
     // The percentage of the last credit, above which the next may not lie.
     pub(crate) fn percent_left(&self) -> u8
         ensures { result ≡ percent_left (said_of self.now).credits }
     {
-        let count = self.credits.len();
-        if count == 0 {
-            100
-        } else {
-            self.credits[count - 1].percent
-        }
-    }
-}
-
-fn is_same_line(a: Line, b: Line) -> bool
-    ensures { (date : ℕ) → result ≡ same_line (seen date a) (seen date b) }
-{
-    match a {
-        Line::Day(instrument, day) => match b {
-            Line::Day(other, last) => instrument == other && day.number == last.number,
-            Line::Rest(_, _) => false,
-            Line::Own(_) => false,
-        },
-        Line::Rest(instrument, next) => match b {
-            Line::Day(_, _) => false,
-            Line::Rest(other, last) => instrument == other && next == last,
-            Line::Own(_) => false,
-        },
-        Line::Own(place) => match b {
-            Line::Day(_, _) => false,
-            Line::Rest(_, _) => false,
-            Line::Own(other) => place == other,
-        },
+        self.credits.rows.last().map_or(100, |c| c.percent)
     }
 }
 

@@ -1,10 +1,10 @@
-ghost use Rattle.std.specs.Prelude.{◌≡◌};
+ghost use Rattle.std.specs.Prelude.{◌≡◌, ◌≤◌, length};
 ghost use Rattle.terms.specs.Ranges.{holds_in};
 ghost use Rattle.terms.specs.declared.bounds.Bounds.TheVariants.{Price};
 ghost use Rattle.tariff.specs.Ranges.{prices_hold, name_holds, gains_hold, risk_holds, step_follows, steps_hold, range_holds, credit_holds};
-ghost use Rattle.tariff.specs.Rows.{steps_in, ranged};
+ghost use Rattle.tariff.specs.Rows.{ranged};
 
-use crate::rows::{Credit, GroupRange, LineName, Prices, Risk, Step, Steps};
+use crate::rows::{Credit, GroupRange, LineName, Prices, Risk, Step};
 use terms::{Bounds, Gains};
 
 // Whether the numbers of a row lie in their ranges.
@@ -55,12 +55,7 @@ impl Risk {
 fn gains_hold(gains: Gains) -> bool
     ensures { result ≡ gains_hold gains }
 {
-    for i in 0..16 {
-        if !Bounds::Gain.holds(gains.each[i]) {
-            return false;
-        }
-    }
-    true
+    gains.each.iter().all(|gain| Bounds::Gain.holds(*gain))
 }
 
 impl Step {
@@ -74,20 +69,19 @@ impl Step {
     }
 }
 
-impl Steps {
-    fn hold(self) -> bool
-        ensures { result ≡ steps_hold (steps_in self) }
-    {
-        let mut before = -1;
-        for i in 0..self.used as usize {
-            let step = self.each[i];
-            if !step.follows(before) {
-                return false;
-            }
-            before = step.limit;
+// Whether each lies in its range, and above the one before.
+fn steps_hold(steps: &[Step]) -> bool
+    requires { length steps.now ≤ 3 }
+    ensures { result ≡ steps_hold steps.now }
+{
+    let mut before = -1;
+    for step in steps {
+        if !step.follows(before) {
+            return false;
         }
-        true
+        before = step.limit;
     }
+    true
 }
 
 impl GroupRange {
@@ -96,7 +90,7 @@ impl GroupRange {
     {
         Bounds::Group.holds(i64::from(self.group))
             && Bounds::PriceRange.holds(i64::from(self.range))
-            && self.steps.hold()
+            && steps_hold(self.steps.in_use())
     }
 }
 

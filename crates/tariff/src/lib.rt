@@ -11,5 +11,5 @@ mod rows;
 mod tariff;
 
 pub use draft::Draft;
-pub use rows::{Credit, GroupRange, LineName, Prices, Risk, RiskLine, Step, Steps};
+pub use rows::{Credit, GroupRange, LineName, Prices, Risk, RiskLine, Settlement, Step, Steps};
 pub use tariff::Tariff;

@@ -1,4 +1,4 @@
-use Rattle.std.proofs.Common.{◌≡◌, ℕ, Bool, true, false, cond, Ok, Err, Result, sym, refl, ap, ◌∙◌, subst, arith}
+use Rattle.std.proofs.Common.{◌≡◌, ℕ, Bool, true, false, cond, Ok, Err, vec_items, Result, sym, refl, ap, ◌∙◌, subst, arith}
 use Rattle.terms.specs.declared.refusal.Refusal.{Refusal}
 use Rattle.terms.specs.declared.refusal.Refusal.TheVariants.{MissingRiskLine}
 use Rattle.calendar.specs.declared.load.Load.{Load}
@@ -13,6 +13,7 @@ use Rattle.tariff.specs.declared.tariff.Tariff.{Tariff}
 use Rattle.file.specs.File.{whole}
 use Rattle.file.specs.Given.{given}
 use Rattle.file.specs.Tells.{Tells, told_at}
+use Rattle.file.specs.View.{with_tariff}
 use Rattle.file.specs.declared.fault.Unread.{Unread}
 use Rattle.file.specs.declared.reading.Reading.{Reading}
 use Rattle.file.specs.Meaning.{view_of}
@@ -39,8 +40,8 @@ returns-in-Ok c =
     let d = r.draft in
     let f = done (is_complete (table_in d) (said_of d).risks) c.in-Ok.tariff.draft d MissingRiskLine c.in-Ok.ensures.answer in
     record {
-      value = ap (λ (x : Draft Load). Ok (view_of (record { draft = x; opening = r.opening; calls = r.calls }))) f.1 ∙ sym (ap (λ (b : Bool). cond b (Ok (view_of r)) (at 8 (Err MissingRiskLine))) f.0);
-      matched = (c.requires.0 ∙ ap (λ (x : Draft Load). listings_of (table_in x)) (sym f.1), c.requires.1 ∙ ap (λ (x : Draft Load). (table_in x).date) (sym f.1));
+      value = ap (λ (x : Draft Load). Ok (with_tariff (view_of r) (vec_items x.contracts.instruments.rows) (table_in x, said_of x))) f.1 ∙ sym (ap (λ (b : Bool). cond b (Ok (view_of r)) (at 8 (Err MissingRiskLine))) f.0);
+      matched = (r.listed ∙ ap (λ (x : Draft Load). listings_of (table_in x)) (sym f.1), r.dated ∙ ap (λ (x : Draft Load). (table_in x).date) (sym f.1));
     }
 
 pub returns-in-Err : goal.returns-in-Err

@@ -1,6 +1,5 @@
-use Rattle.std.proofs.Common.{refl, inr}
 use Rattle.file.proofs.Law.{lawful}
 use Rattle.file.proofs.filling.read.Goals as goal
 
-pub returns-in_default : goal.returns-in_default
-returns-in_default c = record { filled = inr refl; law = lawful c.args.file.now }
+pub returns-in_err-tables-clause-law : goal.returns-in_err-tables-clause-law
+returns-in_err-tables-clause-law c = lawful c.args.file.now

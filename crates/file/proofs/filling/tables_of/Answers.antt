@@ -1,4 +1,5 @@
 use Rattle.std.proofs.Common.{◌≡◌, ℕ, ◌≤◌, List, length, Err, Result, sym, ap, ◌∙◌, subst}
+use Rattle.std.proofs.lemmas.Result.{err_from_is_err_and}
 use Rattle.text.specs.Chain.{◌then◌}
 use Rattle.file.specs.File.{most_bytes, whole, file_says}
 use Rattle.file.specs.Given.{given}
@@ -17,26 +18,27 @@ use Rattle.file.proofs.filling.tables_of.Goals as goal
 by_parts : (bs : List ℕ) → length bs ≤ most_bytes → file_says bs ≡ (parts_of bs then whole)
 by_parts bs h = short bs h ∙ ap (λ (x : Result View Fault). x then whole) (parts_read bs)
 
+stops : (bs : List ℕ) → length bs ≤ most_bytes → (e : Unread) → Tells view_of (Err e) (parts_of bs) → Tells given (Err e) (file_says bs)
+stops bs few (Refused q) h = sym (by_parts bs few ∙ ap (λ (x : Result View Fault). x then whole) (sym h))
+stops bs few NoMemory h = tt
+
 pub returns-then-file-gt-MOST_BYTES : goal.returns-then-file-gt-MOST_BYTES
 returns-then-file-gt-MOST_BYTES c =
     let bs = c.args.file.now in
     record { value = sym (long bs c.if-file-gt-MOST_BYTES.true); matched = tt; law = lawful bs }
 
-pub returns-in-Ok : goal.returns-in-Ok
-returns-in-Ok c =
+pub returns-in_err-reading : goal.returns-in_err-reading
+returns-in_err-reading c =
     let bs = c.args.file.now in
-    let says : file_says bs ≡ whole (view_of c.in-Ok.reading) = by_parts bs c.if-file-gt-MOST_BYTES.false ∙ ap (λ (x : Result View Fault). x then whole) (sym c.in-Ok.ensures.parts) in
+    let p = err_from_is_err_and c.from_residual.result c.from_residual.ensures.1 in
+    rw (p.1, p.2) (record { value = stops bs c.if-file-gt-MOST_BYTES.false c.in_err-reading.field-0.0 c.in_err-reading.ensures; matched = tt; law = lawful bs })
+
+pub returns : goal.returns
+returns c =
+    let bs = c.args.file.now in
+    let says : file_says bs ≡ whole (view_of c.in_ok-reading.reading) = by_parts bs c.if-file-gt-MOST_BYTES.false ∙ ap (λ (x : Result View Fault). x then whole) (sym c.in_ok-reading.ensures) in
     record {
       value = subst (Tells given c.complete.result) (sym says) c.complete.ensures.value;
       matched = c.complete.ensures.matched;
       law = lawful bs;
     }
-
-pub returns-in-Err : goal.returns-in-Err
-returns-in-Err c =
-    let bs = c.args.file.now in
-    record { value = stops c.in-Err.unread c.in-Err.ensures.parts; matched = tt; law = lawful bs }
-  where
-    stops : (e : Unread) → Tells view_of (Err e) (parts_of c.args.file.now) → Tells given (Err e) (file_says c.args.file.now)
-    stops (Refused q) h = sym (by_parts c.args.file.now c.if-file-gt-MOST_BYTES.false ∙ ap (λ (x : Result View Fault). x then whole) (sym h))
-    stops NoMemory h = tt

@@ -1,3 +1,4 @@
+use Rattle.std.proofs.lemmas.Result.{err_from_is_err_and}
 use Rattle.std.proofs.Common.{◌≡◌, ℕ, Bool, true, false, cond, List, [], Ok, Err, Result, refl, ap, subst, arith}
 use Rattle.terms.specs.Told.{Told}
 use Rattle.terms.specs.declared.failure.Failure.{Failure}
@@ -8,6 +9,7 @@ use Rattle.contracts.specs.Rules.{dates_answer}
 use Rattle.contracts.specs.Table.{Table}
 use Rattle.text.specs.Chain.{◌then◌}
 use Rattle.text.specs.Fields.{Piece}
+use Rattle.tariff.specs.Settlements.{is_final}
 use Rattle.tariff.specs.Views.{draft_of, empty_by, no_rows}
 use Rattle.tariff.specs.declared.draft.Draft.{Draft}
 use Rattle.forms.specs.declared.section.Section.TheVariants.{Head}
@@ -42,10 +44,12 @@ no_days : (ps : List Piece) (q : Refusal) → Err q ≡ head_days ps → Err q �
 unfolding line_says
 no_days ps q e = ap (λ (s : Result (ℕ × ℕ × Bool) Refusal). s then λ x. dates_answer x.0 x.1 then λ t. Ok (with_tariff no_view [] (t, no_rows x.2))) e
 
-pub returns-in-Ok : goal.returns-in-Ok
-returns-in-Ok c =
-    let d = c.in-Ok.days in
-    on_head _ (d.0.number, d.1.number, d.2) c.in-Ok.ensures c.new.result (drafted c.new.result d.2 _ _ _ refl c.new.ensures)
+pub returns-in_err-date : goal.returns-in_err-date
+returns-in_err-date c =
+    let p = err_from_is_err_and c.from_residual.result c.from_residual.ensures.1 in
+    rw (p.1, p.2) (no_days _ _ c.in_err-date.ensures)
 
-pub returns-in-Err : goal.returns-in-Err
-returns-in-Err c = no_days _ c.in-Err.refusal c.in-Err.ensures
+pub returns : goal.returns
+returns c =
+    let d = c.in_ok-date in
+    on_head _ (d.date.number, d.horizon.number, is_final d.settlement) d.ensures c.new.result (drafted c.new.result (is_final d.settlement) _ _ _ refl c.new.ensures)

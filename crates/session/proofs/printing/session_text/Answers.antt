@@ -1,7 +1,7 @@
 use Rattle.std.proofs.Common.{ℕ, List, ◌++◌, vec_items, ap, ◌∙◌}
-use Rattle.bookkeeping.specs.Answers.{answers}
-use Rattle.bookkeeping.specs.declared.entry.Call.{Call}
-use Rattle.session.specs.Sessions.{under_both}
+use Rattle.books.specs.Answers.{answers}
+use Rattle.books.specs.declared.entry.Call.{Call}
+use Rattle.limits.specs.Openings.{under_both}
 use Rattle.session.specs.Texts.{answer_lines}
 use Rattle.session.proofs.printing.session_text.Goals as goal
 
@@ -9,7 +9,7 @@ pub returns : goal.returns
 returns c =
     let told = c.in_ok-answers.ensures in
     let opens = told.opens in
-    let s = under_both (vec_items c.args.tables.opening.limits) told.book in
+    let s = under_both (vec_items c.args.tables.opening.limits.rows) told.book in
     record {
       book = told.book;
       begins = record {

@@ -1,30 +1,25 @@
-use Rattle.std.proofs.Common.{ℕ, List, map, vec_items, Option, sym, ◌∙◌}
-use Rattle.std.proofs.lemmas.Bool.{cond-true, cond-false}
+use Rattle.std.proofs.Common.{◌≡◌, vec_items, Bor, refl, ap, ◌∙◌, rules}
+use Rattle.std.specs.List.{find}
+use Rattle.std.specs.Option.{option_map}
+use Rattle.std.proofs.lemmas.Iterator.{YieldsList-from_slice}
+use Rattle.std.proofs.lemmas.Iterator.Search.{find_from_yields_List}
 use Rattle.contracts.specs.Seen.{seen}
-use Rattle.contracts.specs.declared.line.Line.{Line}
 use Rattle.tariff.specs.Rows.{rated}
-use Rattle.tariff.specs.Rules.{risk_in}
-use Rattle.tariff.specs.declared.rows.Risk.{Risk}
+use Rattle.tariff.specs.Rules.{same_line}
+use Rattle.tariff.specs.Said.{Rated}
 use Rattle.tariff.specs.declared.rows.RiskLine.{RiskLine}
-use Rattle.tariff.proofs.Walks.{item_at, item_end}
+use Rattle.tariff.proofs.Same.{same_seen}
+use Rattle.tariff.proofs.Walks.{find_seen, mapped_twice}
 use Rattle.tariff.proofs.draft.Draft.risk_of.Goals as goal
-
-abbrev in' : ℕ → Line → List RiskLine → Option Risk
-in' date l rs = risk_in (map (rated date) rs) (seen date l)
-
-pub returns-then-is_same_line : goal.returns-then-is_same_line
-returns-then-is_same_line g c =
-    let s = c.args.self.now in
-    let date = s.contracts.date.number in
-    sym (item_at (in' date c.args.line) c.deref-r-items.result.now (vec_items s.risks) c.loop-r.r-index c.deref-r-items.ensures.value c.r-item.result _ c.loop-r-test.true c.r-item.is ∙ cond-true _ _ _ (sym (c.if-is_same_line.ensures date))) ∙ c.loop-r.invariant
-
-pub loop-r-preserved : goal.loop-r-preserved
-loop-r-preserved g c =
-    let s = c.args.self.now in
-    let date = s.contracts.date.number in
-    sym (item_at (in' date c.args.line) c.deref-r-items.result.now (vec_items s.risks) c.loop-r.r-index c.deref-r-items.ensures.value c.r-item.result _ c.loop-r-test.true c.r-item.is ∙ cond-false _ _ _ (sym (c.if-is_same_line.ensures date))) ∙ c.loop-r.invariant
 
 pub returns : goal.returns
 returns g c =
-    let s = c.args.self.now in
-    sym (item_end (in' s.contracts.date.number c.args.line) c.deref-r-items.result.now (vec_items s.risks) c.loop-r.r-index c.deref-r-items.ensures.value c.loop-r-test.false) ∙ c.loop-r.invariant
+    let date = c.args.self.now.contracts.date.number in
+    let test = λ (r : RiskLine). same_line (seen date r.line) (seen date c.args.line) in
+    let now = λ (r : Bor RiskLine). r.now in
+    let risk = λ (r : RiskLine). r.risk in
+    let found : option_map now c.find.result ≡ find test c.deref.result.now = find_from_yields_List test _ _ c.find.result c.find.ensures.ran (YieldsList-from_slice c.deref.result.now cc) (λ x b q k. search (rules, same_seen)) in
+    let mapped : c.map.result ≡ option_map (λ (r : Bor RiskLine). r.now.risk) c.find.result = search rules in
+    mapped ∙ mapped_twice now risk c.find.result ∙ ap (option_map risk) (found ∙ ap (find test) c.deref.ensures.value)
+    ∙ mapped_twice (rated date) (λ (r : Rated). r.risk) (find test (vec_items c.args.self.now.risks.rows))
+    ∙ ap (option_map (λ (r : Rated). r.risk)) (find_seen (rated date) test (λ r. same_line r.line (seen date c.args.line)) (λ _. refl) (vec_items c.args.self.now.risks.rows))
