@@ -9,7 +9,7 @@ use Rattle.file.specs.declared.fault.Unread.TheVariants.{Refused, NoMemory}
 use Rattle.file.specs.declared.tables.Tables.{Tables}
 
 abbrev pub given : Tables → View
-given t = record { instruments = vec_items t.tariff.draft.contracts.instruments.rows; table = table_in t.tariff.draft; tariff = said_of t.tariff.draft; accounts = vec_items t.opening.accounts.rows; rows = vec_items t.opening.rows.rows; limits = vec_items t.opening.limits.rows; calls = vec_items t.calls.rows.rows }
+given t = record { instruments = vec_items t.tariff.draft.contracts.instruments.rows; table = table_in t.tariff.draft; tariff = said_of t.tariff.draft; accounts = vec_items t.opening.accounts.rows; rows = vec_items t.opening.rows.rows; limits = vec_items t.opening.limits.rows; calls = vec_items t.calls.rows }
 
 -- the opening is over the contracts of the tariff, on their date
 abbrev pub Matched : Tables → Type 0

@@ -1,6 +1,6 @@
 ghost use Rattle.std.specs.Prelude.{◌≡◌, map};
 ghost use Rattle.text.specs.Fields.{see};
-ghost use Rattle.file.specs.Meaning.{view_of, draft_view};
+ghost use Rattle.file.specs.Meaning.{view_of, draft_view, DraftKept, ContractsKept, TablesKept, NothingElse};
 ghost use Rattle.file.specs.Says.{instrument_says, account_says, opening_says, limit_says, risk_says, range_says, credit_says, call_says};
 
 use crate::body::Row;
@@ -25,6 +25,8 @@ impl Row for InstrumentRow {
 
     ghost says = { instrument_says };
 
+    ghost kept = { NothingElse };
+
     fn add(draft: &mut Draft<Load>, fields: &[Field]) -> Result<(), Refusal> {
         let InstrumentRow { instrument, spot } = instrument_form(fields)?;
         draft.add_instrument(instrument, spot)
@@ -38,6 +40,8 @@ impl Row for Account {
 
     ghost says = { account_says };
 
+    ghost kept = { DraftKept };
+
     fn add(reading: &mut Reading, fields: &[Field]) -> Result<(), Refusal> {
         reading.opening.add_account(account_form(fields)?)
     }
@@ -49,6 +53,8 @@ impl Row for Opened {
     ghost view = { view_of };
 
     ghost says = { opening_says };
+
+    ghost kept = { DraftKept };
 
     fn add(reading: &mut Reading, fields: &[Field]) -> Result<(), Refusal> {
         reading.opening.add_opening(opening_form(fields)?)
@@ -62,6 +68,8 @@ impl Row for Limit {
 
     ghost says = { limit_says };
 
+    ghost kept = { DraftKept };
+
     fn add(reading: &mut Reading, fields: &[Field]) -> Result<(), Refusal> {
         reading.opening.add_limit(limit_form(fields)?)
     }
@@ -73,6 +81,8 @@ impl Row for RiskRow {
     ghost view = { view_of };
 
     ghost says = { risk_says };
+
+    ghost kept = { ContractsKept };
 
     fn add(reading: &mut Reading, fields: &[Field]) -> Result<(), Refusal> {
         let RiskRow { name, risk } = risk_form(fields)?;
@@ -87,6 +97,8 @@ impl Row for GroupRange {
 
     ghost says = { range_says };
 
+    ghost kept = { ContractsKept };
+
     fn add(reading: &mut Reading, fields: &[Field]) -> Result<(), Refusal> {
         reading.draft.add_range(range_form(fields)?)
     }
@@ -99,6 +111,8 @@ impl Row for Credit {
 
     ghost says = { credit_says };
 
+    ghost kept = { ContractsKept };
+
     fn add(reading: &mut Reading, fields: &[Field]) -> Result<(), Refusal> {
         reading.draft.add_credit(credit_form(fields)?)
     }
@@ -110,6 +124,8 @@ impl Row for Call {
     ghost view = { view_of };
 
     ghost says = { call_says };
+
+    ghost kept = { TablesKept };
 
     fn add(reading: &mut Reading, fields: &[Field]) -> Result<(), Refusal> {
         reading.calls.add(call_form(fields)?)

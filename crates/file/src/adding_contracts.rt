@@ -5,7 +5,7 @@ ghost use Rattle.contracts.specs.Rows.{said_in};
 ghost use Rattle.contracts.specs.Table.{size, nth};
 ghost use Rattle.tariff.specs.Views.{table_in};
 ghost use Rattle.text.specs.Fields.{see};
-ghost use Rattle.file.specs.Meaning.{draft_view, terms_in, Added};
+ghost use Rattle.file.specs.Meaning.{draft_view, terms_in, Added, NothingElse};
 ghost use Rattle.file.specs.Says.{terms_of, contract_by, contract_says};
 
 use crate::body::Row;
@@ -60,6 +60,8 @@ impl Row for ContractRow {
     ghost view = { draft_view };
 
     ghost says = { contract_says };
+
+    ghost kept = { NothingElse };
 
     fn add(draft: &mut Draft<Load>, fields: &[Field]) -> Result<(), Refusal> {
         let row = contract_form(fields)?;

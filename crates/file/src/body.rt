@@ -22,9 +22,13 @@ pub(crate) trait Row {
     // What has been read with a line, or what it is refused for.
     ghost says: { View → List Piece → Result View Refusal };
 
+    // What no row of the section touches, refused or not.
+    ghost kept: { Self.Table → Self.Table → Type 0 };
+
     // Adds the row that the fields of a line say, or refuses it.
     fn add(table: &mut Self::Table, fields: &[Field]) -> Result<(), Refusal>
-        ensures { Added (says (view table.old) (map see fields.now)) result (view table.new) };
+        ensures added { Added (says (view table.old) (map see fields.now)) result (view table.new) }
+        ensures kept { kept table.old table.new };
 }
 
 // Adds the rows of a section, so many lines.

@@ -1,5 +1,5 @@
 -- What the tables show, and what they can bear.
-use Rattle.std.specs.Prelude.{◌≡◌, ℕ, Bool, true, false, cond, ◌&&◌, ℤ, ◌+ℤ◌, Some, None, Ok, Err, vec_items, Option, Result}
+use Rattle.std.specs.Prelude.{◌≡◌, ℕ, Bool, true, false, cond, ◌&&◌, ℤ, ◌+ℤ◌, List, Some, None, Ok, Err, vec_items, Option, Result, slice_set}
 use Rattle.terms.specs.Amounts.{amount_plus, amount_minus}
 use Rattle.terms.specs.declared.amounts.Amount.{Amount}
 use Rattle.terms.specs.declared.refusal.Refusal.{Refusal}
@@ -10,7 +10,7 @@ use Rattle.books.specs.State.{Holding, is_listing}
 use Rattle.books.specs.declared.entry.Account.{Account}
 use Rattle.books.specs.declared.entry.Whose.{Whose}
 use Rattle.books.specs.Shifts.{Movement}
-use Rattle.ledger.specs.Places.{cell_at, openings, trades, amount_at, is_listed}
+use Rattle.ledger.specs.Places.{place_of, cell_at, openings, trades, amount_at, is_listed}
 use Rattle.ledger.specs.declared.tables.Tables.{Tables}
 
 abbrev pub holding_of : Tables → Holding
@@ -37,6 +37,11 @@ bears_by t (Some a) c by = bears_at t a c by
 -- each account that an amount goes out of or into bears it
 abbrev pub bears : Tables → Movement → Bool
 bears t h = bears_by t h.from h.contract (amount_minus h.amount) && bears_by t h.to h.contract h.amount
+
+-- what was traded, by place, with an amount more where it goes
+abbrev pub posted : Tables → Option ℕ → ℕ → Amount → List Amount
+posted t None c by = trades (vec_items t.cells)
+posted t (Some a) c by = slice_set (trades (vec_items t.cells)) (place_of (vec_items t.accounts) (vec_items t.listings) a c) (amount_plus (traded t a c) by)
 
 -- all but what was traded is as it was
 pub record Kept (t u : Tables) : Type 0 where

@@ -1,7 +1,7 @@
 ghost use Rattle.std.specs.Prelude.{◌≡◌, ℕ, true, false};
 ghost use Rattle.books.specs.Shifts.{is_at, movement_of, shifts};
 ghost use Rattle.ledger.specs.Places.{goes, trades, Shifted};
-ghost use Rattle.ledger.specs.Views.{bears_at, bears_by, bears, Kept};
+ghost use Rattle.ledger.specs.Views.{bears_at, bears_by, bears, posted, Kept};
 
 use crate::posting::Posting;
 use crate::tables::Tables;
@@ -36,6 +36,7 @@ impl Tables {
     // Adds an amount to the cell of the account that gets it, where that bears it.
     fn post(&mut self, posting: Posting)
         requires { bears_by self.old posting.account posting.contract posting.amount ≡ true }
+        ensures posted { trades self.new.cells.items ≡ posted self.old posting.account posting.contract posting.amount }
         ensures shifted { Shifted self.old.accounts.items self.old.listings.items (goes posting.account posting.contract posting.amount) (trades self.old.cells.items) (trades self.new.cells.items) }
         ensures kept { Kept self.old self.new }
     {

@@ -27,7 +27,7 @@ fn session_text(heap: Global, tables: Tables) -> Result<String, AllocError>
     requires { Matched tables }
     ensures { IfOk result (λ t. Session (given tables) (string_bytes t)) }
 {
-    let answers = answers_to(heap, &tables.opening, &tables.calls.rows.rows)?;
+    let answers = answers_to(heap, &tables.opening, &tables.calls.rows)?;
     let mut text = String::new(heap);
     add_answers(&mut text, &answers)?;
     Ok(text)

@@ -2,4 +2,6 @@
 #![tactic(auto)]
 
 #[cfg(test)]
+mod of_calls;
+#[cfg(test)]
 mod of_files;

@@ -19,7 +19,7 @@ returns-in_err-at_line-clause-rows g c =
     let q = c.in_err-at_line.field-0.0 in
     let k : c.args.count - i ≡ suc (c.args.count - (i + 1)) = omega (arith, c.loop-test.true) in
     let p = err_from_is_err_and c.from_residual-in_err-at_line.result c.from_residual-in_err-at_line.ensures.1 in
-    let said = refused line c.add.result q _ _ c.in_err-at_line.ensures c.add.ensures ∙ ap (λ (fs : List Field). at line (says v (map see fs))) c.deref.ensures.value in
+    let said = refused line c.add.result q _ _ c.in_err-at_line.ensures c.add.ensures.added ∙ ap (λ (fs : List Field). at line (says v (map see fs))) c.deref.ensures.value in
     let stop = next_refused (says v) n bs c.next.new.self.rest.now _ line q c.in_ok-line.ensures.next said in
     rw (p.1, p.2) (body_stops says (c.args.count - i) (c.args.count - (i + 1)) n v bs _ c.loop.invariant.0 k q stop)
 
@@ -33,7 +33,7 @@ loop-preserved g c =
     let bs = c.loop.lines.rest.now in
     let rest = c.next.new.self.rest.now in
     let k : c.args.count - i ≡ suc (c.args.count - (i + 1)) = omega (arith, c.loop-test.true) in
-    let said = taken c.in_ok-line.line c.add.result _ _ _ c.in_ok-at_line.ensures c.add.ensures ∙ ap (λ (fs : List Field). says v (map see fs)) c.deref.ensures.value in
+    let said = taken c.in_ok-line.line c.add.result _ _ _ c.in_ok-at_line.ensures c.add.ensures.added ∙ ap (λ (fs : List Field). says v (map see fs)) c.deref.ensures.value in
     let line = next_is (says v) n bs rest _ c.in_ok-line.line (Ok u) c.in_ok-line.ensures.next said in
     let number = c.in_ok-line.ensures.number in
     let counted = c.loop.invariant.1 in (

@@ -6,8 +6,8 @@ use Rattle.file.specs.Says.{credit_by}
 use Rattle.file.proofs.Rows.{added, taken, same_contracts}
 use Rattle.file.proofs.adding.CreditRow.add.Goals as goal
 
-pub returns : goal.returns
-returns c =
+pub returns-clause-added : goal.returns-clause-added
+returns-clause-added c =
     let s = c.args.reading.now in
     let v = view_of s in
     let row = c.in_ok-credit_form.field-0 in

@@ -7,8 +7,8 @@ use Rattle.file.specs.Says.{range_by}
 use Rattle.file.proofs.Rows.{added, taken, same_contracts}
 use Rattle.file.proofs.adding.GroupRangeRow.add.Goals as goal
 
-pub returns : goal.returns
-returns c =
+pub returns-clause-added : goal.returns-clause-added
+returns-clause-added c =
     let s = c.args.reading.now in
     let v = view_of s in
     let row = ranged c.in_ok-range_form.field-0 in

@@ -10,8 +10,8 @@ use Rattle.file.proofs.OfDraft.{tariff_alike}
 use Rattle.file.proofs.Rows.{added, taken}
 use Rattle.file.proofs.adding.InstrumentRowRow.add.Goals as goal
 
-pub returns : goal.returns
-returns c =
+pub returns-clause-added : goal.returns-clause-added
+returns-clause-added c =
     let s = c.args.draft.now in
     let v = draft_view s in
     let row = c.in_ok-instrument.field-0 in

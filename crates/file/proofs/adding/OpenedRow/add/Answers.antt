@@ -10,8 +10,8 @@ use Rattle.file.proofs.OfOpening.{opened_alike}
 use Rattle.file.proofs.Rows.{added, taken}
 use Rattle.file.proofs.adding.OpenedRow.add.Goals as goal
 
-pub returns : goal.returns
-returns c =
+pub returns-clause-added : goal.returns-clause-added
+returns-clause-added c =
     let s = c.args.reading.now in
     let o = s.opening in
     let v = view_of s in

@@ -18,7 +18,7 @@ returns c =
     let base = with_tariff no_view (vec_items d.contracts.instruments.rows) (table_in d, said_of d) in
     record {
       value =
-          opened_alike (with_calls base (vec_items c.in_ok-calls.calls.rows.rows)) _ _ _ _ _ _ (no_accounts o t f) (rows_empty o t f) (no_limits o t f)
+          opened_alike (with_calls base (vec_items c.in_ok-calls.calls.rows)) _ _ _ _ _ _ (no_accounts o t f) (rows_empty o t f) (no_limits o t f)
           ∙ ap (λ (cs : List Call). with_calls base cs) c.in_ok-calls.ensures
           ∙ tariff_alike no_view _ _ _ _ is e;
       matched = (over_table o t f, same_date o t f);

@@ -2,7 +2,7 @@ use Rattle.std.proofs.Common.{◌≡◌, ℕ, true, List, Some, set, vec_items, 
 use Rattle.terms.specs.declared.amounts.Amount.{Amount}
 use Rattle.books.specs.declared.entry.Cell.{Cell}
 use Rattle.ledger.specs.Places.{trades, goes, Shifted}
-use Rattle.ledger.specs.Views.{bears_at, bears_by}
+use Rattle.ledger.specs.Views.{bears_at, bears_by, posted}
 use Rattle.ledger.proofs.AtPlace.{found_at, place_low}
 use Rattle.ledger.proofs.Shifting.{one_more}
 use Rattle.ledger.proofs.Writes.{trades_low, posted_within, posted_openings, posted_trades}
@@ -44,6 +44,7 @@ returns-in-Some-place c =
     let one = one_more xs cs ts a k by at.listed (trades_low (vec_items t.cells) _ (place_low t a k at.listed)) in
     let y : Cell = record { opening = c.index_mut.result.now.opening; traded = c.sum.result } in
     record {
+      posted = posted_trades t a k i x _ by at same c.sum.ensures ∙ sym (ap (λ (o : Option ℕ). posted t o k by) c.in-Some.is);
       shifted = subst (λ (o : Option ℕ). Shifted xs cs (goes o k by) ts (trades (set (vec_items t.cells) i y))) (sym c.in-Some.is) (subst (λ (us : List Amount). Shifted xs cs (goes (Some a) k by) ts us) (sym (posted_trades t a k i x _ by at same c.sum.ensures)) one);
       kept = record { date = refl; accounts = refl; listings = refl; opening = posted_openings t a k i x _ by at same c.sum.ensures };
     }
